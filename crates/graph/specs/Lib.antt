@@ -1,0 +1,4 @@
+pub mod Line
+pub mod Draft
+pub mod Faults
+pub mod Verdict

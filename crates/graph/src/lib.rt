@@ -1,0 +1,19 @@
+// Graphs as text: reading one, and why a text is none.
+mod checked;
+mod draft;
+mod drafting;
+mod faults;
+mod line;
+mod reading;
+mod theorems;
+
+pub use checked::Graph;
+pub use draft::Draft;
+pub use draft::Lines;
+pub use faults::fault;
+pub use line::Line;
+pub use line::Name;
+pub use line::read_line;
+pub use reading::Refused;
+pub use reading::read;
+pub use theorems::read_is_proper;
