@@ -64,9 +64,9 @@ read-proper text s is none =
     let ws = none-found (workerProper (s .edges)) (workersProper (s .edges)) (λ w. refl) (λ w k ks. refl) (s .workerLines) 0 (s .kinds) None (es .0) in
     let z : sized (topology s) ≡ true
     = and-from (ltb 0 (length (s .kinds))) (leb (length (s .kinds)) mostWorkers && leb (length (s .edges)) mostEdges) (lt-ltb 0 (length (s .kinds)) (g .0))
-        (and-from (leb (length (s .kinds)) mostWorkers) (leb (length (s .edges)) mostEdges) (le-leb (length (s .kinds)) mostWorkers (g .1 .0)) (le-leb (length (s .edges)) mostEdges (g .1 .1))) in
+    (and-from (leb (length (s .kinds)) mostWorkers) (leb (length (s .edges)) mostEdges) (le-leb (length (s .kinds)) mostWorkers (g .1 .0)) (le-leb (length (s .edges)) mostEdges (g .1 .1))) in
     and-from (sized (topology s)) (workersProper (s .edges) 0 (s .kinds) && edgesProper (s .kinds) (s .edges)) z
-        (and-from (workersProper (s .edges) 0 (s .kinds)) (edgesProper (s .kinds) (s .edges)) (ws .1) (es .1))
+    (and-from (workersProper (s .edges) 0 (s .kinds)) (edgesProper (s .kinds) (s .edges)) (ws .1) (es .1))
 
 refused-graph : (n l : ℕ) (g : Topology) (ls : List ℕ) → refused n l ≡ graph g ls → ⊥
 refused-graph n l g ls h = let z : _≡_ {A = ℕ} 0 1 = cc in omega arith

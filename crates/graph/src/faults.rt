@@ -37,13 +37,21 @@ fn leaves(ends: &[Edge], w: usize) -> bool
 fn is_fed(ends: &[Edge], w: usize, kind: Kind) -> bool
     ensures { λ r. ⌜ r ≡ (isSource kind || reached w (now (ends .entry))) ⌝ }
 {
-    if kind.is_source() { true } else { reaches(ends, w) }
+    if kind.is_source() {
+        true
+    } else {
+        reaches(ends, w)
+    }
 }
 
 fn is_drained(ends: &[Edge], w: usize, kind: Kind) -> bool
     ensures { λ r. ⌜ r ≡ (isSink kind || left w (now (ends .entry))) ⌝ }
 {
-    if kind.is_sink() { true } else { leaves(ends, w) }
+    if kind.is_sink() {
+        true
+    } else {
+        leaves(ends, w)
+    }
 }
 
 // Whether a worker's numbers are in range and it has the edges that it needs.

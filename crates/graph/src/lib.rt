@@ -1,4 +1,5 @@
 // Graphs as text: reading one, and why a text is none.
+mod address;
 mod checked;
 mod draft;
 mod drafting;

@@ -111,9 +111,10 @@ each-first es w k ks (a, b) (suc i) l =
     subst (λ n. WorkerProper es n (getD ks i Source)) e (b i (omega arith))
 
 each-back : (es : List Edge) (w : ℕ) (k : Kind) (ks : List Kind) → EachWorker es w (k ∷ ks) → WorkerProper es w k × EachWorker es (w + 1) ks
-each-back es w k ks h =
-    (subst (λ n. WorkerProper es n k) (add-zero w) (h zero (omega arith)),
-    λ i l. let e : w + suc i ≡ (w + 1) + i = omega arith in subst (λ n. WorkerProper es n (getD ks i Source)) e (h (suc i) (omega arith)))
+each-back es w k ks h = (
+  subst (λ n. WorkerProper es n k) (add-zero w) (h zero (omega arith)),
+  λ i l. let e : w + suc i ≡ (w + 1) + i = omega arith in subst (λ n. WorkerProper es n (getD ks i Source)) e (h (suc i) (omega arith)),
+)
 
 workers-is : (es : List Edge) (w : ℕ) (ks : List Kind) → Decides (workersProper es w ks) (EachWorker es w ks)
 workers-is es w [] = (λ _ i l. absurd (omega arith), λ _. refl)
@@ -164,8 +165,10 @@ together g (s, (ws, es)) = record {
 apart : (g : Topology) → Proper g → Parts g
 apart g p = (
   (p .some, (p .few, p .fewEdges)),
-  (λ w l. subst (λ n. WorkerProper (g .edges) n (kindAt g w)) (sym (zero-add w)) (p .ranges w l, (p .fed w l, p .drained w l)),
-  λ e l. (p .up e l .0, (p .up e l .1, (p .intoNoSource e l, p .outOfNoSink e l)))),
+  (
+    λ w l. subst (λ n. WorkerProper (g .edges) n (kindAt g w)) (sym (zero-add w)) (p .ranges w l, (p .fed w l, p .drained w l)),
+    λ e l. (p .up e l .0, (p .up e l .1, (p .intoNoSource e l, p .outOfNoSink e l))),
+  ),
 )
 
 pub proper-is : ProperIs

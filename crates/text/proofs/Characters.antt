@@ -19,9 +19,10 @@ use Rattle.text.specs.Name.{visible, isUtf8, isName, NameIs}
 
 pub utf8-is : (bs : List ℕ) → Decides (isUtf8 bs) (Utf8 bs)
 utf8-is bs =
-    let same : Decides (sameBytes (encodes (decodes bs)) bs) (encodes (decodes bs) ≡ bs) = sameBytes-decides (encodes (decodes bs)) bs in
-    (λ h. let p = and-parts (scalars (decodes bs)) (sameBytes (encodes (decodes bs)) bs) h in (decodes bs, (p .0, same .0 (p .1))),
-    λ u. and-from (scalars (decodes bs)) (sameBytes (encodes (decodes bs)) bs) (scalars-decodes bs u) (same .1 (encodes-decodes bs u)))
+    let same : Decides (sameBytes (encodes (decodes bs)) bs) (encodes (decodes bs) ≡ bs) = sameBytes-decides (encodes (decodes bs)) bs in (
+      λ h. let p = and-parts (scalars (decodes bs)) (sameBytes (encodes (decodes bs)) bs) h in (decodes bs, (p .0, same .0 (p .1))),
+      λ u. and-from (scalars (decodes bs)) (sameBytes (encodes (decodes bs)) bs) (scalars-decodes bs u) (same .1 (encodes-decodes bs u)),
+    )
 
 pub utf8-yes : (bs : List ℕ) → Utf8 bs → true ≡ isUtf8 bs
 utf8-yes bs u = sym (utf8-is bs .1 u)
@@ -48,6 +49,7 @@ name-is w = (forth (eqb (length w) 0) refl (visible w) refl, λ p. back (p .0) (
     forth true e v is h = absurd (clash h)
     forth false e true is h = (let n = eqb-false (length w) 0 e in omega (arith, n), (visible-from w is, utf8-is w .0 h))
     forth false e false is h = absurd (clash h)
+
     back : 0 < length w → Visible w → Utf8 w → isName w ≡ true
     back some v u =
         let e : eqb (length w) 0 ≡ false = ne-eqb (length w) 0 (omega arith) in

@@ -6,7 +6,7 @@ use Rattle.graph.proofs.faults.worker_fault.Needs as need
 pub loop-w-again : need.loop-w-again
 loop-w-again c =
     lowest-turn (workerProper (c .args .ends .now)) Source (c .args .lines .now) (c .args .kinds .now) (c .loop-w .w) _ _ _ _
-        (c .loop-w-test .taken) (c .loop-w .inv) (c .worker-proper .ensures) (c .marked-best .ensures)
+    (c .loop-w-test .taken) (c .loop-w .inv) (c .worker-proper .ensures) (c .marked-best .ensures)
 
 pub returns : need.returns
 returns c = lowest-end (workerProper (c .args .ends .now)) (c .args .lines .now) (c .args .kinds .now) (c .loop-w .w) _ _ (c .loop-w-test .left) (c .loop-w .inv)
