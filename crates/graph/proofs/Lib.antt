@@ -1,3 +1,4 @@
 pub mod Room
 pub mod Lowest
 pub mod Sound
+pub mod Back

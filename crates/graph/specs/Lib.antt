@@ -2,3 +2,4 @@ pub mod Line
 pub mod Draft
 pub mod Faults
 pub mod Verdict
+pub mod Write

@@ -1,13 +1,14 @@
 -- What becomes of a graph's text.
 use mathlib.Core.Path.{_≡_}
-use mathlib.Core.List.{List}
-use Prim.Native.Nat.{ℕ}
-use lib.ListN.{take}
+use mathlib.Core.List.{List, []}
+use Prim.Native.Nat.{ℕ, _-_}
+use lib.ListN.{take, getD}
 use Rattle.std.specs.declared.option.Option.{Option}
 use Rattle.std.specs.declared.option.Option.the-variants.{Some, None}
 use Rattle.std.specs.declared.result.Result.{Result}
 use Rattle.std.specs.declared.result.Result.the-variants.{Ok, Err}
 use Rattle.items.specs.Refusals.{numberOf}
+use Rattle.text.specs.Words.{wordsOf, linesOf}
 use Rattle.model.specs.Graph.{Topology, Proper}
 use Rattle.graph.specs.declared.checked.Graph.{Graph}
 use Rattle.graph.specs.declared.reading.Refused.{Refused}
@@ -41,3 +42,7 @@ verdict text = judgedDraft (drafted text)
 -- Every graph that is read is proper.
 abbrev pub ReadIsProper : Type 0
 ReadIsProper = (text : List ℕ) (g : Topology) (lines : List ℕ) → verdict text ≡ graph g lines → Proper g
+
+-- the journal's name in a worker's line, counted from 1: its third word
+abbrev pub nameIn : List ℕ → ℕ → List ℕ
+nameIn text line = getD (wordsOf (getD (linesOf text) (line - 1) [])) 2 []

@@ -18,3 +18,4 @@ pub use line::read_line;
 pub use reading::Refused;
 pub use reading::read;
 pub use theorems::read_is_proper;
+pub use theorems::write_read;

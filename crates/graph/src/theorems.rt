@@ -1,8 +1,15 @@
 // What is proved of the definitions, each named by a contract.
 ghost use Rattle.graph.specs.Verdict.{ReadIsProper};
+ghost use Rattle.graph.specs.Write.{WriteRead};
 
 pub fn read_is_proper() -> u8
     ensures { λ _. ⌜ ReadIsProper ⌝ }
+{
+    0
+}
+
+pub fn write_read() -> u8
+    ensures { λ _. ⌜ WriteRead ⌝ }
 {
     0
 }

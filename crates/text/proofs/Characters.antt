@@ -1,9 +1,9 @@
 -- Names.
 use mathlib.Core.Path.{_≡_, refl, ap, sym, _∙_, subst}
 use mathlib.Core.Logic.{_⊎_, inl, inr}
-use mathlib.Core.Bool.{Bool, true, false, cond, _&&_}
+use mathlib.Core.Bool.{Bool, true, false, cond, _&&_, not}
 use mathlib.Core.List.{List, [], _∷_}
-use Prim.Native.Nat.{ℕ, zero, suc, _<_}
+use Prim.Native.Nat.{ℕ, zero, suc, _<_, _≤_}
 use native.Mathlib.Omega.{arith}
 use borrow.Author.Tests.{clash, lt-ltb, ltb-true, eqb-false, ne-eqb}
 use lib.Dec.{eqb, ltb}
@@ -12,10 +12,11 @@ use lib.Utf8.{encodes, scalars}
 use Rattle.std.specs.Orderings.{Decides}
 use Rattle.std.specs.Text.{Utf8}
 use Rattle.std.specs.shelf.Text.{decodes, sameBytes}
-use Rattle.std.proofs.shelf.Tests.{and-parts, and-from, cases-bool}
+use Rattle.std.proofs.shelf.Tests.{and-parts, and-from, cases-bool, not-from-false}
 use Rattle.std.proofs.shelf.Equals.{sameBytes-decides}
 use Rattle.std.proofs.shelf.Text.{encodes-decodes, scalars-decodes}
 use Rattle.text.specs.Name.{visible, isUtf8, isName, NameIs}
+use Rattle.text.specs.Laws.{lacks}
 
 pub utf8-is : (bs : List ℕ) → Decides (isUtf8 bs) (Utf8 bs)
 utf8-is bs =
@@ -55,3 +56,14 @@ name-is w = (forth (eqb (length w) 0) refl (visible w) refl, λ p. back (p .0) (
         let e : eqb (length w) 0 ≡ false = ne-eqb (length w) 0 (omega arith) in
         let a : visible w ≡ true = visible-to w v in
         rw (e, a) (utf8-is w .1 u)
+
+-- a name has neither spaces nor line feeds
+pub visible-lacks : (e : ℕ) (bs : List ℕ) → e ≤ 32 → visible bs ≡ true → lacks e bs ≡ true
+visible-lacks e [] l h = refl
+visible-lacks e (b ∷ bs) l h =
+    let p = and-parts (ltb 32 b) (visible bs) h in
+    let above = ltb-true 32 b (p .0) in
+    and-from (not (eqb b e)) (lacks e bs) (not-from-false (eqb b e) (ne-eqb b e (omega (arith, above)))) (visible-lacks e bs l (p .1))
+
+pub name-lacks : (e : ℕ) (w : List ℕ) → e ≤ 32 → isName w ≡ true → lacks e w ≡ true
+name-lacks e w l h = visible-lacks e w l (visible-to w (name-is w .0 h .1 .0))

@@ -4,8 +4,8 @@ use mathlib.Core.Bool.{Bool, true, false, cond, _&&_, not}
 use mathlib.Core.List.{List, [], _∷_, _++_}
 use Prim.Native.Nat.{ℕ}
 use lib.Dec.{eqb}
-use borrow.Author.Tests.{not-true, eq-eqb}
-use Rattle.std.proofs.shelf.Tests.{and-parts}
+use borrow.Author.Tests.{not-true, eq-eqb, ne-eqb}
+use Rattle.std.proofs.shelf.Tests.{and-parts, and-from, not-from-false}
 use Rattle.text.specs.Words.{onto, partsOf, wordsOf, linesOf}
 use Rattle.text.specs.Laws.{lacks, allLack, spaced, ended, WordsJoin, LinesJoin}
 
@@ -37,3 +37,18 @@ lines-join [] h = refl
 lines-join (l ∷ ls) h =
     let p = and-parts (lacks 10 l) (allLack 10 ls) h in
     part-first 10 [] l (ended ls) (p .0) ∙ ap (λ x. l ∷ x) (lines-join ls (p .1))
+
+-- what two parts lack, both together lack
+lacks-both : (e : ℕ) (v w : List ℕ) → lacks e v ≡ true → lacks e w ≡ true → lacks e (v ++ w) ≡ true
+lacks-both e [] w h k = k
+lacks-both e (b ∷ v) w h k =
+    let p = and-parts (not (eqb b e)) (lacks e v) h in
+    and-from (not (eqb b e)) (lacks e (v ++ w)) (p .0) (lacks-both e v w (p .1) k)
+
+-- words that lack a byte, one space apart, lack it, unless it is a space
+pub lacks-spaced : (e : ℕ) (w : List ℕ) (ws : List (List ℕ)) → (32 ≡ e → ⊥) → allLack e (w ∷ ws) ≡ true → lacks e (spaced w ws) ≡ true
+lacks-spaced e w [] other h = and-parts (lacks e w) true h .0
+lacks-spaced e w (v ∷ vs) other h =
+    let p = and-parts (lacks e w) (allLack e (v ∷ vs)) h in
+    lacks-both e w (32 ∷ spaced v vs) (p .0)
+        (and-from (not (eqb 32 e)) (lacks e (spaced v vs)) (not-from-false (eqb 32 e) (ne-eqb 32 e other)) (lacks-spaced e v vs other (p .1)))

@@ -12,11 +12,11 @@ use lib.ListN.{length, getD}
 use Rattle.std.specs.Written.{decimal}
 use Rattle.std.specs.declared.option.Option.{Option}
 use Rattle.std.specs.declared.option.Option.the-variants.{Some, None}
-use Rattle.std.proofs.shelf.Tests.{cases-eq}
+use Rattle.std.proofs.shelf.Tests.{cases-eq, and-from, not-from-false}
 use Rattle.std.proofs.shelf.Numerals.{Numerals, numerals-by-fold}
 use Rattle.std.proofs.shelf.Decimals.{decimal-value, digits-decimal, value-decimal, decimal-digit, decimal-some, first-decimal}
 use Rattle.text.specs.Number.{most, extend, digits, padded, numberOf}
-use Rattle.text.specs.Laws.{NumberIs}
+use Rattle.text.specs.Laws.{NumberIs, lacks}
 
 abbrev AllDigits : List ℕ → Type 0
 AllDigits [] = Unit {0}
@@ -96,8 +96,8 @@ forth w n h =
     let d : decimal (valueOf 0 w) ≡ w = decimal-value own w (r .0 .0) (q .0) (q .1) small in
     (sym d ∙ ap decimal v, le)
 
-back : (n : ℕ) → n ≤ most → numberOf (decimal n) ≡ Some n
-back n le =
+pub number-back : (n : ℕ) → n ≤ most → numberOf (decimal n) ≡ Some n
+number-back n le =
     let fits : n < 2 ^ 64 = omega arith in
     let v : valueOf 0 (decimal n) ≡ n = value-decimal own n fits in
     let p : padded (decimal n) ≡ false = unpadded-back (decimal n) (decimal-some n fits) (first-of n fits) in
@@ -105,4 +105,12 @@ back n le =
     rw p (reads (decimal n) 0 (digits-decimal own n fits) l ∙ ap Some v)
 
 pub number-is : NumberIs
-number-is w n = (forth w n, λ le is. ap numberOf is ∙ back n le)
+number-is w n = (forth w n, λ le is. ap numberOf is ∙ number-back n le)
+
+-- digits are neither spaces nor line feeds
+digits-lack : (e : ℕ) (bs : List ℕ) → e < 48 → AllDigits bs → lacks e bs ≡ true
+digits-lack e [] l d = refl
+digits-lack e (b ∷ bs) l ((low, high), d) = and-from (not (eqb b e)) (lacks e bs) (not-from-false (eqb b e) (ne-eqb b e (omega arith))) (digits-lack e bs l d)
+
+pub decimal-lacks : (e n : ℕ) → e < 48 → n ≤ most → lacks e (decimal n) ≡ true
+decimal-lacks e n l le = digits-lack e (decimal n) l (digits-decimal own n (omega arith))
