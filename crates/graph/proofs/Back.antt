@@ -76,11 +76,11 @@ kind-plain name Source h e l = with-plain e (codes "source") (name ∷ []) refl 
 kind-plain name (Keep low high) h e l =
     let p = and-parts (leb low most) (leb high most) h in
     with-plain e (codes "keep") (decimal low ∷ decimal high ∷ []) refl l
-        (two-plain (decimal low) (decimal high) (plain-number low (leb-true low most (p .0))) (plain-number high (leb-true high most (p .1))) e l)
+    (two-plain (decimal low) (decimal high) (plain-number low (leb-true low most (p .0))) (plain-number high (leb-true high most (p .1))) e l)
 kind-plain name (Scale times by) h e l =
     let p = and-parts (leb times most) (leb by most) h in
     with-plain e (codes "scale") (decimal times ∷ decimal by ∷ []) refl l
-        (two-plain (decimal times) (decimal by) (plain-number times (leb-true times most (p .0))) (plain-number by (leb-true by most (p .1))) e l)
+    (two-plain (decimal times) (decimal by) (plain-number times (leb-true times most (p .0))) (plain-number by (leb-true by most (p .1))) e l)
 kind-plain name (Group by) h e l = with-plain e (codes "group") (decimal by ∷ []) refl l (one-plain (decimal by) (plain-number by (leb-true by most h)) e l)
 kind-plain name Spread h e l = with-plain e (codes "spread") [] refl l refl
 kind-plain name (Window long) h e l = with-plain e (codes "window") (decimal long ∷ []) refl l (one-plain (decimal long) (plain-number long (leb-true long most h)) e l)
@@ -122,7 +122,7 @@ all-lack names w [] rest h k = k
 all-lack names w (x ∷ xs) rest h k =
     let p = and-parts (writable (getD names w []) x) (allWritable names (w + 1) xs) h in
     and-from (lacks 10 (workerLine (getD names w []) x)) (allLack 10 (workerTexts names (w + 1) xs ++ rest))
-        (line-lacks (codes "worker") (kindWords (getD names w []) x) refl (kind-plain (getD names w []) x (p .0))) (all-lack names (w + 1) xs rest (p .1) k)
+    (line-lacks (codes "worker") (kindWords (getD names w []) x) refl (kind-plain (getD names w []) x (p .0))) (all-lack names (w + 1) xs rest (p .1) k)
 
 -- a line that says something and has room is added
 added-line : (n : ℕ) (s : Shape) (l : List ℕ) (ls : List (List ℕ)) (said : Line) → lineOf (wordsOf l) ≡ Some said → roomFor s said ≡ true → draftFrom n s (l ∷ ls) ≡ draftFrom (n + 1) (addedTo s n said) ls
@@ -196,7 +196,7 @@ no-fault g p =
     let u = and-parts (sized g) (workersProper (g .edges) 0 (g .kinds) && edgesProper (g .kinds) (g .edges)) t .1 in
     let v = and-parts (workersProper (g .edges) 0 (g .kinds)) (edgesProper (g .kinds) (g .edges)) u in
     all-found (λ e x. edgeProper (g .kinds) x) (λ e. edgesProper (g .kinds)) (λ e. refl) (λ e x xs. refl) (final g .edgeLines) 0 (g .edges)
-        (workerFaults (g .edges) (final g .workerLines) (g .kinds)) (v .1)
+    (workerFaults (g .edges) (final g .workerLines) (g .kinds)) (v .1)
     ∙ all-found (workerProper (g .edges)) (workersProper (g .edges)) (λ w. refl) (λ w k ks. refl) (final g .workerLines) 0 (g .kinds) None (v .0)
 
 verdict-back : (g : Topology) (names : List (List ℕ)) → Proper g → allWritable names 0 (g .kinds) ≡ true → verdict (textOf names g) ≡ graph g (countFrom 1 (length (g .kinds)))
@@ -229,7 +229,7 @@ name-back g names p h w l is =
     let number : getD (countFrom 1 (length (g .kinds))) w 0 - 1 ≡ w = let c = count-at 1 (length (g .kinds)) w l in omega (arith, c) in
     let there : getD (linesOf (textOf names g)) w [] ≡ workerLine (getD names w []) Source
     = ap (λ ls. getD ls w []) (text-lines g names p h) ∙ (text-at names 0 (g .kinds) (edgeTexts (g .edges)) w l
-        ∙ (ap (λ i. workerLine (getD names i []) (getD (g .kinds) w Source)) (zero-add w) ∙ ap (workerLine (getD names w [])) is)) in
+    ∙ (ap (λ i. workerLine (getD names i []) (getD (g .kinds) w Source)) (zero-add w) ∙ ap (workerLine (getD names w [])) is)) in
     let ok : writable (getD names w []) Source ≡ true
     = sym (ap (λ i. writable (getD names i []) Source) (zero-add w)) ∙ (sym (ap (writable (getD names (0 + w) [])) is) ∙ writable-at names 0 (g .kinds) h w l) in
     ap (λ i. getD (wordsOf (getD (linesOf (textOf names g)) i [])) 2 []) number

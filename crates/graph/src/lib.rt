@@ -4,6 +4,7 @@ mod checked;
 mod draft;
 mod drafting;
 mod faults;
+mod journal;
 mod line;
 mod reading;
 mod theorems;
@@ -12,6 +13,7 @@ pub use checked::Graph;
 pub use draft::Draft;
 pub use draft::Lines;
 pub use faults::fault;
+pub use journal::journal_name;
 pub use line::Line;
 pub use line::Name;
 pub use line::read_line;
@@ -19,3 +21,6 @@ pub use reading::Refused;
 pub use reading::read;
 pub use theorems::read_is_proper;
 pub use theorems::write_read;
+
+#[cfg(test)]
+mod tests;

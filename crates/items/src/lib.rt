@@ -56,3 +56,6 @@ impl Refusal {
         }
     }
 }
+
+#[cfg(test)]
+mod tests;

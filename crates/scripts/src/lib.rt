@@ -7,3 +7,6 @@ pub use command::Word;
 pub use command::read_command;
 pub use fresh::Answer;
 pub use fresh::answer_to;
+
+#[cfg(test)]
+mod tests;

@@ -51,4 +51,4 @@ lacks-spaced e w [] other h = and-parts (lacks e w) true h .0
 lacks-spaced e w (v ∷ vs) other h =
     let p = and-parts (lacks e w) (allLack e (v ∷ vs)) h in
     lacks-both e w (32 ∷ spaced v vs) (p .0)
-        (and-from (not (eqb 32 e)) (lacks e (spaced v vs)) (not-from-false (eqb 32 e) (ne-eqb 32 e other)) (lacks-spaced e v vs other (p .1)))
+    (and-from (not (eqb 32 e)) (lacks e (spaced v vs)) (not-from-false (eqb 32 e) (ne-eqb 32 e other)) (lacks-spaced e v vs other (p .1)))
