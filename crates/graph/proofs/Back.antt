@@ -23,7 +23,7 @@ use Rattle.text.proofs.Characters.{visible-lacks, name-lacks}
 use Rattle.model.specs.declared.Kind.{Kind}
 use Rattle.model.specs.declared.Kind.the-variants.{Source, Keep, Scale, Group, Spread, Window, Sink}
 use Rattle.model.specs.declared.Edge.{Edge}
-use Rattle.model.specs.Graph.{Topology, mostWorkers, mostEdges, kindAt, edgeAt, workerProper, edgeProper, workersProper, edgesProper, sized, proper, Proper}
+use Rattle.model.specs.Graph.{Topology, noEdge, mostWorkers, mostEdges, kindAt, edgeAt, workerProper, edgeProper, workersProper, edgesProper, sized, proper, Proper}
 use Rattle.model.proofs.Proper.{proper-is}
 use Rattle.graph.specs.declared.line.Line.{Line}
 use Rattle.graph.specs.declared.line.Line.the-variants as line
@@ -168,7 +168,7 @@ edges-back (x ∷ xs) n ks os wl el (f, fs) fits =
     ∙ (ap (λ y. draftFrom (n + suc (length xs)) (shape ks y wl ((el ++ n ∷ []) ++ countFrom (n + 1) (length xs))) []) a
     ∙ ap (λ y. draftFrom (n + suc (length xs)) (shape ks (os ++ x ∷ xs) wl y) []) b)))
 
-edges-fit : (xs : List Edge) → ((e : ℕ) → e < length xs → Fits (getD xs e (record { from = 0; to = 0 }))) → AllFit xs
+edges-fit : (xs : List Edge) → ((e : ℕ) → e < length xs → Fits (getD xs e noEdge)) → AllFit xs
 edges-fit [] h = tt
 edges-fit (x ∷ xs) h = (h zero (omega arith), edges-fit xs (λ e l. h (suc e) (omega arith)))
 

@@ -17,9 +17,6 @@ use Rattle.graph.specs.declared.line.Line.{Line}
 use Rattle.graph.specs.Line.{lineOf}
 use Rattle.graph.specs.Draft.{Shape, Drafted, whole, badLine, roomFor, addedTo, stepped, draftFrom}
 
-abbrev pub blank : Edge
-blank = record { from = 0; to = 0 }
-
 abbrev shape : List Kind → List Edge → List ℕ → List ℕ → Shape
 shape ks es wl el = record { kinds = ks; edges = es; workerLines = wl; edgeLines = el }
 

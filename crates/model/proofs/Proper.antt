@@ -15,10 +15,7 @@ use Rattle.std.proofs.shelf.Ways.{decides-eqb, decides-ltb, decides-and, decide
 use Rattle.model.specs.declared.Kind.{Kind}
 use Rattle.model.specs.declared.Kind.the-variants.{Source, Keep, Scale, Group, Spread, Window, Sink}
 use Rattle.model.specs.declared.Edge.{Edge}
-use Rattle.model.specs.Graph.{Topology, mostWorkers, mostEdges, kindAt, edgeAt, isSource, isSink, inRange, reached, left, workerProper, edgeProper, workersProper, edgesProper, sized, proper, InRange, Proper, ProperIs}
-
-abbrev blank : Edge
-blank = record { from = 0; to = 0 }
+use Rattle.model.specs.Graph.{Topology, noEdge, mostWorkers, mostEdges, kindAt, edgeAt, isSource, isSink, inRange, reached, left, workerProper, edgeProper, workersProper, edgesProper, sized, proper, InRange, Proper, ProperIs}
 
 decides-leb : (a b : ℕ) → Decides (leb a b) (a ≤ b)
 decides-leb a b = (leb-true a b, le-leb a b)
@@ -56,7 +53,7 @@ sink-is Sink = (λ _. refl, λ _. refl)
 -- some edge has an end at w, by a test over the list
 module _ (F : List Edge → Bool) (f : Edge → ℕ) (w : ℕ) (F-[] : F [] ≡ false) (F-∷ : (x : Edge) (xs : List Edge) → F (x ∷ xs) ≡ (eqb (f x) w || F xs)) where
   abbrev Some : List Edge → Type 0
-  Some es = (e : ℕ) × (e < length es) × (f (getD es e blank) ≡ w)
+  Some es = (e : ℕ) × (e < length es) × (f (getD es e noEdge) ≡ w)
 
   some-none : Some [] → ⊥
   some-none (e, l, is) = omega arith
@@ -78,8 +75,8 @@ module _ (F : List Edge → Bool) (f : Edge → ℕ) (w : ℕ) (F-[] : F [] ≡ 
 abbrev WorkerProper : List Edge → ℕ → Kind → Type 0
 WorkerProper es w k =
     InRange k
-    × (((k ≡ Source) ⊎ ((e : ℕ) × (e < length es) × (getD es e blank .to ≡ w)))
-    × ((k ≡ Sink) ⊎ ((e : ℕ) × (e < length es) × (getD es e blank .from ≡ w))))
+    × (((k ≡ Source) ⊎ ((e : ℕ) × (e < length es) × (getD es e noEdge .to ≡ w)))
+    × ((k ≡ Sink) ⊎ ((e : ℕ) × (e < length es) × (getD es e noEdge .from ≡ w))))
 
 worker-is : (es : List Edge) (w : ℕ) (k : Kind) → Decides (workerProper es w k) (WorkerProper es w k)
 worker-is es w k =
@@ -123,7 +120,7 @@ workers-is es w (k ∷ ks) =
     (decides-and (workerProper es w k) (workersProper es (w + 1) ks) (worker-is es w k) (workers-is es (w + 1) ks))
 
 abbrev EachEdge : List Kind → List Edge → Type 0
-EachEdge ks es = (e : ℕ) → e < length es → EdgeProper ks (getD es e blank)
+EachEdge ks es = (e : ℕ) → e < length es → EdgeProper ks (getD es e noEdge)
 
 edge-first : (ks : List Kind) (x : Edge) (xs : List Edge) → EdgeProper ks x × EachEdge ks xs → EachEdge ks (x ∷ xs)
 edge-first ks x xs (a, b) zero l = a

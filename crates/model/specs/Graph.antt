@@ -25,8 +25,11 @@ mostEdges = 64
 abbrev pub kindAt : Topology → ℕ → Kind
 kindAt g w = getD (g .kinds) w Source
 
+abbrev pub noEdge : Edge
+noEdge = record { from = 0; to = 0 }
+
 abbrev pub edgeAt : Topology → ℕ → Edge
-edgeAt g e = getD (g .edges) e (record { from = 0; to = 0 })
+edgeAt g e = getD (g .edges) e noEdge
 
 abbrev pub isSource : Kind → Bool
 isSource Source = true

@@ -1,26 +1,36 @@
 // Carries a script out on a graph, in memory, with one answer for each line.
-mod show;
-
 use graph::Graph;
 use graph::Refused;
 use items::Refusal;
 use scripts::Answer;
-use show::print_fresh;
+use scripts::answer_to;
+use scripts::fresh_text;
 use std::env;
 use std::error::AnyError;
 use std::fs;
 use text::next_line;
 
-// What is said on standard error has been said; the process ends with status 1.
-fn ended() -> Result<(), AnyError> {
+// What was wrong has been said on standard error; an `Err` ends the process with status 1.
+fn ended<T>() -> Result<T, AnyError> {
     Err("ended".into())
+}
+
+fn load(rt: &LibcRuntime, path: &str) -> Result<Vec<u8>, AnyError> {
+    match fs::read(rt, path) {
+        Ok(bytes) => Ok(bytes),
+        Err(error) => {
+            eprintln!(rt, "rehearse: {path}: {error}")?;
+            ended()
+        }
+    }
 }
 
 fn reason(refusal: Refusal) -> &'static str {
     match refusal {
         Refusal::BadLine => "no line of a graph, a 33rd worker, a 65th edge, or no worker at all",
-        _ =>
-            "an edge that doesn't go up or isn't allowed, a number out of range, or a worker without an edge that it needs",
+        _ => {
+            "an edge that does not go up or is not allowed, a number out of range, or a worker without an edge that it needs"
+        }
     }
 }
 
@@ -38,9 +48,9 @@ fn refuse(rt: &LibcRuntime, path: &str, refused: Refused) -> Result<(), AnyError
 
 // The answer to one line; false where the script can't go on.
 fn answer(rt: &LibcRuntime, graph: &Graph, line: &[u8]) -> Result<bool, AnyError> {
-    match scripts::answer_to(graph, line) {
+    match answer_to(graph, line) {
         Answer::Done => println!(rt, "ok")?,
-        Answer::Shown => print_fresh(rt, graph)?,
+        Answer::Shown => rt.print(fresh_text(rt.alloc(), graph)?)?,
         Answer::Refused(refusal) => println!(rt, "{}", refusal.number())?,
         Answer::NotBuilt => return Ok(false),
     }
@@ -59,20 +69,14 @@ fn carry_out(rt: &LibcRuntime, graph: &Graph, path: &str, script: &[u8]) -> Resu
             return ended();
         }
         rest = after;
-        n = n.wrapping_add(1);
+        n = n.saturating_add(1);
     }
     Ok(())
 }
 
 fn rehearse(rt: &LibcRuntime, graph_path: &str, script_path: &str) -> Result<(), AnyError> {
-    let Ok(text) = fs::read(rt, graph_path) else {
-        eprintln!(rt, "rehearse: {graph_path}: can't be read")?;
-        return ended();
-    };
-    let Ok(script) = fs::read(rt, script_path) else {
-        eprintln!(rt, "rehearse: {script_path}: can't be read")?;
-        return ended();
-    };
+    let text = load(rt, graph_path)?;
+    let script = load(rt, script_path)?;
     match graph::read(&text) {
         Ok(graph) => carry_out(rt, &graph, script_path, &script),
         Err(refused) => refuse(rt, graph_path, refused),

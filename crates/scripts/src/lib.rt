@@ -1,12 +1,14 @@
 // The lines of a script, and what a graph that has not begun answers to them.
 mod command;
 mod fresh;
+mod show;
 
 pub use command::Command;
 pub use command::Word;
 pub use command::read_command;
 pub use fresh::Answer;
 pub use fresh::answer_to;
+pub use show::fresh_text;
 
 #[cfg(test)]
 mod tests;
