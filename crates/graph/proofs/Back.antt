@@ -1,36 +1,35 @@
 -- A graph written out and read again.
-use mathlib.Core.Path.{_≡_, refl, ap, sym, _∙_, subst}
-use mathlib.Core.Bool.{Bool, true, false, cond, _&&_}
+use mathlib.Core.Path.{_≡_, refl, ap, sym, _∙_}
+use mathlib.Core.Bool.{true, false, cond, _&&_}
 use mathlib.Core.List.{List, [], _∷_, _++_, append-assoc, append-nil}
 use Prim.Native.Nat.{ℕ, zero, suc, _+_, _-_, _≤_, _<_}
 use native.Mathlib.Omega.{arith}
 use native.Mathlib.Nat.{add-zero, zero-add}
 use borrow.Author.Tests.{leb-true, lt-ltb, ne-eqb}
 use lib.Chars.{codes}
-use lib.Dec.{eqb, ltb, leb}
+use lib.Dec.{eqb, leb}
 use lib.ListN.{length, getD, length-append}
 use Rattle.std.proofs.shelf.Tests.{and-parts, and-from}
 use Rattle.std.specs.Written.{decimal}
-use Rattle.std.specs.declared.option.Option.{Option}
 use Rattle.std.specs.declared.option.Option.the-variants.{Some, None}
-use Rattle.text.specs.Number.{most, numberOf}
-use Rattle.text.specs.Name.{visible, isName}
+use Rattle.text.specs.Number.{most}
+use Rattle.text.specs.Name.{visible}
 use Rattle.text.specs.Words.{wordsOf, linesOf, oneOf, twoOf}
-use Rattle.text.specs.Laws.{lacks, allLack, spaced, ended}
+use Rattle.text.specs.Laws.{lacks, allLack, spaced}
 use Rattle.text.proofs.Numbers.{number-back, decimal-lacks}
 use Rattle.text.proofs.Joins.{words-join, lines-join, lacks-spaced}
 use Rattle.text.proofs.Characters.{visible-lacks, name-lacks}
 use Rattle.model.specs.declared.Kind.{Kind}
 use Rattle.model.specs.declared.Kind.the-variants.{Source, Keep, Scale, Group, Spread, Window, Sink}
 use Rattle.model.specs.declared.Edge.{Edge}
-use Rattle.model.specs.Graph.{Topology, noEdge, mostWorkers, mostEdges, kindAt, edgeAt, workerProper, edgeProper, workersProper, edgesProper, sized, proper, Proper}
+use Rattle.model.specs.Graph.{Topology, noEdge, mostWorkers, mostEdges, kindAt, workerProper, edgeProper, workersProper, edgesProper, sized, Proper}
 use Rattle.model.proofs.Proper.{proper-is}
 use Rattle.graph.specs.declared.line.Line.{Line}
 use Rattle.graph.specs.declared.line.Line.the-variants as line
 use Rattle.graph.specs.Line.{lineOf}
-use Rattle.graph.specs.Draft.{Shape, Drafted, whole, badLine, topology, bare, roomFor, addedTo, stepped, draftFrom, drafted}
+use Rattle.graph.specs.Draft.{Shape, whole, badLine, bare, roomFor, addedTo, stepped, draftFrom, drafted}
 use Rattle.graph.specs.Faults.{workerFaults, faultOf}
-use Rattle.graph.specs.Verdict.{Verdict, graph, judged, judgedDraft, verdict, nameIn}
+use Rattle.graph.specs.Verdict.{graph, judged, judgedDraft, verdict, nameIn}
 use Rattle.graph.specs.Write.{kindWords, workerLine, edgeWords, edgeLine, workerTexts, edgeTexts, textOf, writable, allWritable, countFrom, WriteRead}
 use Rattle.graph.proofs.Lowest.{all-found}
 

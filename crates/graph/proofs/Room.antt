@@ -1,21 +1,16 @@
 -- Lists in the first places of arrays, and the lines that fill them.
-use mathlib.Core.Path.{_≡_, refl, ap, sym, _∙_}
+use mathlib.Core.Path.{_≡_, ap, _∙_}
 use mathlib.Core.List.{List, [], _∷_, _++_}
-use mathlib.Core.Bool.{Bool, true, false, cond}
-use Prim.Native.Nat.{ℕ, suc, _+_, _-_, _≤_, _<_}
+use mathlib.Core.Bool.{true, false}
+use Prim.Native.Nat.{ℕ, _+_, _-_, _≤_, _<_}
 use native.Mathlib.Omega.{arith}
-use borrow.Author.Tests.{eq-eqb, ne-eqb, lt-true, le-false}
-use lib.Dec.{eqb, ltb}
-use lib.ListN.{length, take, drop, set}
+use borrow.Author.Tests.{lt-true, le-false}
+use lib.Dec.{ltb}
+use lib.ListN.{length, take, set}
 use Rattle.std.proofs.shelf.Lists.{length-take-le, take-more-set}
-use Rattle.std.specs.declared.option.Option.{Option}
-use Rattle.std.specs.declared.option.Option.the-variants.{Some, None}
-use Rattle.text.specs.Words.{wordsOf, linesOf}
 use Rattle.model.specs.declared.Kind.{Kind}
 use Rattle.model.specs.declared.Edge.{Edge}
-use Rattle.graph.specs.declared.line.Line.{Line}
-use Rattle.graph.specs.Line.{lineOf}
-use Rattle.graph.specs.Draft.{Shape, Drafted, whole, badLine, roomFor, addedTo, stepped, draftFrom}
+use Rattle.graph.specs.Draft.{Shape}
 
 abbrev shape : List Kind → List Edge → List ℕ → List ℕ → Shape
 shape ks es wl el = record { kinds = ks; edges = es; workerLines = wl; edgeLines = el }
@@ -24,9 +19,6 @@ shape ks es wl el = record { kinds = ks; edges = es; workerLines = wl; edgeLines
 module _ {X : Type 0} where
   pub room : (xs : List X) (n cap : ℕ) → length xs ≡ cap → n ≤ cap → (n ≡ cap → ⊥) → true ≡ ltb (length (take n xs)) cap
   room xs n cap l le ne = lt-true (length (take n xs)) cap (let e = length-take-le n xs (omega arith) in omega (arith, e))
-
-  pub no-room : (xs : List X) (n cap : ℕ) → length xs ≡ cap → n ≡ cap → false ≡ ltb (length (take n xs)) cap
-  no-room xs n cap l is = le-false (length (take n xs)) cap (let e = length-take-le n xs (omega arith) in omega (arith, e))
 
 -- one worker more, one edge more
 pub worker-more : (ks : List Kind) (es : List Edge) (wl el : List ℕ) (n : ℕ) (k : Kind) (line : ℕ) → n < length ks → n < length wl →

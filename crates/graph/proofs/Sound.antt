@@ -1,8 +1,7 @@
 -- What is read is a proper graph.
 use mathlib.Core.Path.{_≡_, refl, ap, sym, _∙_, subst}
-use mathlib.Core.Logic.{_⊎_, inl, inr}
 use mathlib.Core.Bool.{Bool, true, false, cond, _&&_}
-use mathlib.Core.List.{List, [], _∷_, _++_}
+use mathlib.Core.List.{List, [], _∷_}
 use Prim.Native.Nat.{ℕ, _+_, _≤_, _<_}
 use native.Mathlib.Omega.{arith}
 use borrow.Author.Tests.{ltb-true, lt-ltb, le-leb, eqb-false}
@@ -12,7 +11,6 @@ use Rattle.std.proofs.shelf.Tests.{and-from}
 use Rattle.std.specs.declared.option.Option.{Option}
 use Rattle.std.specs.declared.option.Option.the-variants.{Some, None}
 use Rattle.text.specs.Words.{wordsOf, linesOf}
-use Rattle.model.specs.declared.Kind.{Kind}
 use Rattle.model.specs.declared.Edge.{Edge}
 use Rattle.model.specs.Graph.{Topology, mostWorkers, mostEdges, workerProper, edgeProper, workersProper, edgesProper, sized, proper, Proper}
 use Rattle.model.proofs.Proper.{proper-is}
@@ -20,8 +18,8 @@ use Rattle.graph.specs.declared.line.Line.{Line}
 use Rattle.graph.specs.declared.line.Line.the-variants as line
 use Rattle.graph.specs.Line.{lineOf}
 use Rattle.graph.specs.Draft.{Shape, Drafted, whole, badLine, topology, roomFor, addedTo, stepped, draftFrom, drafted}
-use Rattle.graph.specs.Faults.{lowest, workerFaults, faultOf}
-use Rattle.graph.specs.Verdict.{Verdict, graph, refused, judged, judgedDraft, verdict, ReadIsProper}
+use Rattle.graph.specs.Faults.{workerFaults, faultOf}
+use Rattle.graph.specs.Verdict.{graph, refused, judged, judgedDraft, ReadIsProper}
 use Rattle.graph.proofs.Lowest.{none-found}
 
 abbrev Within : Shape → Type 0

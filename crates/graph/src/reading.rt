@@ -1,9 +1,5 @@
 // Reading a graph.
 ghost use mathlib.Core.Path.{_≡_};
-ghost use mathlib.Core.List.{[]};
-ghost use Rattle.std.specs.Options.{Cases};
-ghost use lib.ListN.{getD};
-ghost use Rattle.text.specs.Words.{wordsOf, linesOf};
 ghost use Rattle.graph.specs.Verdict.{verdictOf, verdict};
 use crate::checked::Graph;
 use crate::draft::Draft;

@@ -8,14 +8,13 @@ use native.Mathlib.Omega.{arith}
 use native.Mathlib.Nat.{add-zero, zero-add}
 use lib.Dec.{eqb, ltb, leb}
 use lib.ListN.{length, getD}
-use borrow.Author.Tests.{clash, both-ways, leb-true, le-leb}
+use borrow.Author.Tests.{clash, leb-true, le-leb}
 use Rattle.std.specs.Orderings.{Decides}
-use Rattle.std.proofs.shelf.Tests.{false≢true}
 use Rattle.std.proofs.shelf.Ways.{decides-eqb, decides-ltb, decides-and, decides-or, decides-not, decides-like}
 use Rattle.model.specs.declared.Kind.{Kind}
 use Rattle.model.specs.declared.Kind.the-variants.{Source, Keep, Scale, Group, Spread, Window, Sink}
 use Rattle.model.specs.declared.Edge.{Edge}
-use Rattle.model.specs.Graph.{Topology, noEdge, mostWorkers, mostEdges, kindAt, edgeAt, isSource, isSink, inRange, reached, left, workerProper, edgeProper, workersProper, edgesProper, sized, proper, InRange, Proper, ProperIs}
+use Rattle.model.specs.Graph.{Topology, noEdge, mostWorkers, mostEdges, kindAt, isSource, isSink, inRange, reached, left, workerProper, edgeProper, workersProper, edgesProper, sized, proper, InRange, Proper, ProperIs}
 
 decides-leb : (a b : ℕ) → Decides (leb a b) (a ≤ b)
 decides-leb a b = (leb-true a b, le-leb a b)

@@ -3,7 +3,6 @@ mod theorems;
 
 pub use theorems::proper_is;
 ghost use mathlib.Core.Path.{_≡_};
-ghost use mathlib.Core.Bool.{Bool};
 ghost use Rattle.model.specs.Graph.{inRange, isSource, isSink};
 
 // A worker's kind, with its numbers.

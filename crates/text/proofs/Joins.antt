@@ -1,12 +1,12 @@
 -- Parts put together and taken apart again.
-use mathlib.Core.Path.{_≡_, refl, ap, sym, _∙_}
-use mathlib.Core.Bool.{Bool, true, false, cond, _&&_, not}
+use mathlib.Core.Path.{_≡_, refl, ap, _∙_}
+use mathlib.Core.Bool.{Bool, true, cond, not}
 use mathlib.Core.List.{List, [], _∷_, _++_}
 use Prim.Native.Nat.{ℕ}
 use lib.Dec.{eqb}
 use borrow.Author.Tests.{not-true, eq-eqb, ne-eqb}
 use Rattle.std.proofs.shelf.Tests.{and-parts, and-from, not-from-false}
-use Rattle.text.specs.Words.{onto, partsOf, wordsOf, linesOf}
+use Rattle.text.specs.Words.{onto, partsOf, wordsOf}
 use Rattle.text.specs.Laws.{lacks, allLack, spaced, ended, WordsJoin, LinesJoin}
 
 -- a part, its end, and the rest

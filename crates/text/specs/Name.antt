@@ -1,5 +1,4 @@
 -- A file's name as one word: UTF-8, not empty, every byte above a space.
-use mathlib.Core.Path.{_≡_}
 use mathlib.Core.List.{List, [], _∷_}
 use mathlib.Core.Bool.{Bool, true, false, cond, _&&_}
 use Prim.Native.Nat.{ℕ, _<_}

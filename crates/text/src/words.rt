@@ -1,11 +1,11 @@
 // Lines of a text, and words of a line.
 ghost use mathlib.Core.Path.{_≡_};
-ghost use mathlib.Core.List.{List, [], _∷_};
-ghost use Prim.Native.Nat.{ℕ, _+_, _-_, _<_, _≤_};
+ghost use mathlib.Core.List.{[], _∷_};
+ghost use Prim.Native.Nat.{_+_, _-_, _<_, _≤_};
 ghost use lib.ListN.{length, getD};
 ghost use Rattle.std.specs.Options.{Cases};
 ghost use Rattle.std.specs.shelf.Text.{sameBytes};
-ghost use Rattle.text.specs.Words.{wordsOf, linesOf, leftOf, before, noneOf, oneOf, twoOf};
+ghost use Rattle.text.specs.Words.{linesOf, leftOf, before, noneOf, oneOf, twoOf};
 use crate::digits::number;
 
 const SPACE: u8 = 32;

@@ -1,7 +1,7 @@
 use mathlib.Core.Path.{refl}
 use Prim.Native.Nat.{_+_}
 use Rattle.model.specs.declared.Kind.the-variants.{Source}
-use Rattle.scripts.specs.Show.{workerText, workersText}
+use Rattle.scripts.specs.Show.{workersText}
 use Rattle.scripts.proofs.Texts.{piece-more, pieces-all}
 use Rattle.scripts.proofs.show.worker_lines.Needs as need
 

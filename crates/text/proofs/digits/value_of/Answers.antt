@@ -1,4 +1,3 @@
-use borrow.Author.Needs.{needs}
 use native.Mathlib.Omega.{arith}
 use Rattle.text.proofs.Parts.{digits-step, digits-end}
 use Rattle.text.proofs.digits.value_of.Needs as need

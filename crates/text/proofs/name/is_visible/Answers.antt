@@ -1,6 +1,5 @@
 use mathlib.Core.Path.{refl}
 use borrow.Author.Tests.{le-ltb, lt-ltb}
-use native.Mathlib.Omega.{arith}
 use lib.Dec.{ltb}
 use Rattle.text.specs.Name.{visible}
 use Rattle.text.proofs.Turns.{all-fails, all-goes-on, over}

@@ -1,5 +1,4 @@
-use Prim.Native.Nat.{_≤_, _<_}
-use lib.ListN.{length}
+use Prim.Native.Nat.{_≤_}
 use native.Mathlib.Omega.{arith}
 use Rattle.graph.proofs.Room.{room, worker-more}
 use Rattle.graph.proofs.draft.Draft.add_worker.Needs as need
