@@ -2,3 +2,5 @@ pub mod Room
 pub mod Lowest
 pub mod Sound
 pub mod Back
+pub mod Least
+pub mod Verdicts

@@ -1,10 +1,10 @@
 -- Lists in the first places of arrays, and the lines that fill them.
 use mathlib.Core.Path.{_≡_, ap, _∙_}
 use mathlib.Core.List.{List, [], _∷_, _++_}
-use mathlib.Core.Bool.{true, false}
+use mathlib.Core.Bool.{true}
 use Prim.Native.Nat.{ℕ, _+_, _-_, _≤_, _<_}
 use native.Mathlib.Omega.{arith}
-use borrow.Author.Tests.{lt-true, le-false}
+use borrow.Author.Tests.{lt-true}
 use lib.Dec.{ltb}
 use lib.ListN.{length, take, set}
 use Rattle.std.proofs.shelf.Lists.{length-take-le, take-more-set}

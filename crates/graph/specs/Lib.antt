@@ -3,3 +3,4 @@ pub mod Draft
 pub mod Faults
 pub mod Verdict
 pub mod Write
+pub mod Applies

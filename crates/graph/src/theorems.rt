@@ -1,4 +1,5 @@
 // What is proved of the definitions, each named by a contract.
+ghost use Rattle.graph.specs.Applies.{LowestWins, ReadIsSaid};
 ghost use Rattle.graph.specs.Verdict.{ReadIsProper};
 ghost use Rattle.graph.specs.Write.{WriteRead};
 
@@ -10,6 +11,18 @@ pub fn read_is_proper() -> u8
 
 pub fn write_read() -> u8
     ensures { λ _. ⌜ WriteRead ⌝ }
+{
+    0
+}
+
+pub fn lowest_wins() -> u8
+    ensures { λ _. ⌜ LowestWins ⌝ }
+{
+    0
+}
+
+pub fn read_is_said() -> u8
+    ensures { λ _. ⌜ ReadIsSaid ⌝ }
 {
     0
 }
