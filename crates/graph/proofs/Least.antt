@@ -34,9 +34,11 @@ least-more P (Some k) n h = go (ltb n k) refl
     lower : n < k → (m : ℕ) → P m ⊎ (m ≡ n) → n ≤ m
     lower l m (inl p) = let b = h .1 m p in omega arith
     lower l m (inr is) = omega arith
+
     higher : k ≤ n → (m : ℕ) → P m ⊎ (m ≡ n) → k ≤ m
     higher l m (inl p) = h .1 m p
     higher l m (inr is) = omega arith
+
     go : (t : Bool) → ltb n k ≡ t → LeastOf (λ j. P j ⊎ (j ≡ n)) (cond t (Some n) (Some k))
     go true is = (inr refl, lower (ltb-true n k is))
     go false is = (inl (h .0), higher (ltb-false n k is))
@@ -76,6 +78,6 @@ module _ {X : Type 0} (proper : ℕ → X → Bool) (d : X) (ls : List ℕ) wher
   lowest-least P i [] best h = least-like P (λ k. P k ⊎ Fault i [] k) best (λ k p. inl p) (λ k o. elim o [ inl p ↦ p | inr f ↦ absurd (no-first i k f) ]) h
   lowest-least P i (x ∷ xs) best h =
       least-like (λ k. (P k ⊎ First i x k) ⊎ Fault (i + 1) xs k) (λ k. P k ⊎ Fault i (x ∷ xs) k) (lowest proper ls i (x ∷ xs) best)
-          (λ k o. elim o [ inl q ↦ elim q [ inl p ↦ inl p | inr f ↦ inr (first-to i k x xs (inl f)) ] | inr f ↦ inr (first-to i k x xs (inr f)) ])
-          (λ k o. elim o [ inl p ↦ inl (inl p) | inr f ↦ elim (first-from i k x xs f) [ inl a ↦ inl (inr a) | inr b ↦ inr b ] ])
-          (lowest-least (λ k. P k ⊎ First i x k) (i + 1) xs (cond (proper i x) best (least best (getD ls i 0))) (turn P i x best h))
+      (λ k o. elim o [ inl q ↦ elim q [ inl p ↦ inl p | inr f ↦ inr (first-to i k x xs (inl f)) ] | inr f ↦ inr (first-to i k x xs (inr f)) ])
+      (λ k o. elim o [ inl p ↦ inl (inl p) | inr f ↦ elim (first-from i k x xs f) [ inl a ↦ inl (inr a) | inr b ↦ inr b ] ])
+      (lowest-least (λ k. P k ⊎ First i x k) (i + 1) xs (cond (proper i x) best (least best (getD ls i 0))) (turn P i x best h))

@@ -43,6 +43,7 @@ drawn-end n s = go (eqb (length (s .kinds)) 0) refl
     absent some m (notALine i l is no-line) = omega arith
     absent some m (tooMany i x l is here full) = omega arith
     absent some m (noWorker is none) = some none
+
     go : (t : Bool) → eqb (length (s .kinds)) 0 ≡ t → Drawn n s [] (cond t (badLine n) (whole s))
     go true is = (noWorker (sym (add-zero n)) (eqb-true (length (s .kinds)) 0 is), not-before n s [])
     go false is = (absent (eqb-false (length (s .kinds)) 0 is), refl)
@@ -97,7 +98,7 @@ OfBoth s k = OfWorkers s k ⊎ Fault (λ e x. edgeProper (s .kinds) x) noEdge (s
 both-least : (s : Shape) → LeastOf (OfBoth s) (faultOf s)
 both-least s =
     lowest-least (λ e x. edgeProper (s .kinds) x) noEdge (s .edgeLines) (OfWorkers s) 0 (s .edges) (workerFaults (s .edges) (s .workerLines) (s .kinds))
-        (lowest-least (workerProper (s .edges)) Source (s .workerLines) (λ k. ⊥) 0 (s .kinds) None (λ m p. p))
+    (lowest-least (workerProper (s .edges)) Source (s .workerLines) (λ k. ⊥) 0 (s .kinds) None (λ m p. p))
 
 faulty-from : (s : Shape) (k : ℕ) → OfBoth s k → Faulty s k
 faulty-from s k (inl (inl no-way)) = absurd no-way

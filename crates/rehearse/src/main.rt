@@ -5,23 +5,32 @@ use items::Refusal;
 use scripts::Answer;
 use scripts::answer_to;
 use scripts::fresh_text;
+use std::alloc::AllocError;
 use std::env;
 use std::error::AnyError;
 use std::fs;
+use std::io;
 use text::next_line;
 
-// What was wrong has been said on standard error; an `Err` ends the process with status 1.
-fn ended<T>() -> Result<T, AnyError> {
-    Err("ended".into())
+// What ends a rehearsal with status 1, each with its line for standard error.
+#[derive(Drop)]
+enum Failure<'a> {
+    Unreadable(&'a str, io::Error),
+    Refused(&'a str, Refused),
+    NotBuilt(&'a str, usize),
+    Output(io::Error),
+    Memory,
 }
 
-fn load(rt: &LibcRuntime, path: &str) -> Result<Vec<u8>, AnyError> {
-    match fs::read(rt, path) {
-        Ok(bytes) => Ok(bytes),
-        Err(error) => {
-            eprintln!(rt, "rehearse: {path}: {error}")?;
-            ended()
-        }
+impl From<io::Error> for Failure<'_> as IoErrorFailure {
+    fn from(error: io::Error) -> Self {
+        Failure::Output(error)
+    }
+}
+
+impl From<AllocError> for Failure<'_> as AllocErrorFailure {
+    fn from(_error: AllocError) -> Self {
+        Failure::Memory
     }
 }
 
@@ -34,20 +43,40 @@ fn reason(refusal: Refusal) -> &'static str {
     }
 }
 
-fn refuse(rt: &LibcRuntime, path: &str, refused: Refused) -> Result<(), AnyError> {
-    let number = refused.refusal.number();
-    let line = refused.line;
-    let why = reason(refused.refusal);
-    println!(rt, "refused {number} line {line}")?;
-    eprintln!(
-        rt,
-        "rehearse: {path} line {line}: refused by {number}: {why}"
-    )?;
-    ended()
+impl Failure<'_> {
+    fn report(self, rt: &LibcRuntime) -> io::Result<()> {
+        match self {
+            Failure::Unreadable(path, error) => eprintln!(rt, "rehearse: {path}: {error}"),
+            Failure::Refused(path, refused) => {
+                let number = refused.refusal.number();
+                let line = refused.line;
+                let why = reason(refused.refusal);
+                eprintln!(
+                    rt,
+                    "rehearse: {path} line {line}: refused by {number}: {why}"
+                )
+            }
+            Failure::NotBuilt(path, line) => {
+                eprintln!(
+                    rt,
+                    "rehearse: {path} line {line}: feed and cut of a source are not built yet"
+                )
+            }
+            Failure::Output(error) => eprintln!(rt, "rehearse: standard output: {error}"),
+            Failure::Memory => eprintln!(rt, "rehearse: out of memory"),
+        }
+    }
+}
+
+fn load<'a>(rt: &LibcRuntime, path: &'a str) -> Result<Vec<u8>, Failure<'a>> {
+    match fs::read(rt, path) {
+        Ok(bytes) => Ok(bytes),
+        Err(error) => Err(Failure::Unreadable(path, error)),
+    }
 }
 
 // The answer to one line; false where the script can't go on.
-fn answer(rt: &LibcRuntime, graph: &Graph, line: &[u8]) -> Result<bool, AnyError> {
+fn answer(rt: &LibcRuntime, graph: &Graph, line: &[u8]) -> Result<bool, Failure<'static>> {
     match answer_to(graph, line) {
         Answer::Done => println!(rt, "ok")?,
         Answer::Shown => rt.print(fresh_text(rt.alloc(), graph)?)?,
@@ -57,16 +86,17 @@ fn answer(rt: &LibcRuntime, graph: &Graph, line: &[u8]) -> Result<bool, AnyError
     Ok(true)
 }
 
-fn carry_out(rt: &LibcRuntime, graph: &Graph, path: &str, script: &[u8]) -> Result<(), AnyError> {
+fn carry_out<'a>(
+    rt: &LibcRuntime,
+    graph: &Graph,
+    path: &'a str,
+    script: &[u8],
+) -> Result<(), Failure<'a>> {
     let mut rest = script;
     let mut n: usize = 1;
     while let Some((line, after)) = next_line(rest) {
         if !answer(rt, graph, line)? {
-            eprintln!(
-                rt,
-                "rehearse: {path} line {n}: feed and cut of a source are not built yet"
-            )?;
-            return ended();
+            return Err(Failure::NotBuilt(path, n));
         }
         rest = after;
         n = n.saturating_add(1);
@@ -74,21 +104,47 @@ fn carry_out(rt: &LibcRuntime, graph: &Graph, path: &str, script: &[u8]) -> Resu
     Ok(())
 }
 
-fn rehearse(rt: &LibcRuntime, graph_path: &str, script_path: &str) -> Result<(), AnyError> {
+fn rehearse<'a>(
+    rt: &LibcRuntime,
+    graph_path: &'a str,
+    script_path: &'a str,
+) -> Result<(), Failure<'a>> {
     let text = load(rt, graph_path)?;
     let script = load(rt, script_path)?;
     match graph::read(&text) {
         Ok(graph) => carry_out(rt, &graph, script_path, &script),
-        Err(refused) => refuse(rt, graph_path, refused),
+        Err(refused) => {
+            let number = refused.refusal.number();
+            let line = refused.line;
+            println!(rt, "refused {number} line {line}")?;
+            Err(Failure::Refused(graph_path, refused))
+        }
     }
 }
 
+// What was wrong has been said; an `Err` ends the process with status 1.
+fn ended() -> Result<(), AnyError> {
+    Err("ended".into())
+}
+
 fn main(rt: LibcRuntime) -> Result<(), AnyError> {
-    let mut args = env::args(&rt)?;
+    let mut args = match env::args(&rt) {
+        Ok(args) => args,
+        Err(error) => {
+            eprintln!(rt, "rehearse: arguments: {error}")?;
+            return ended();
+        }
+    };
     let _program = args.next();
     let (Some(graph), Some(script), None) = (args.next(), args.next(), args.next()) else {
         eprintln!(rt, "rehearse: usage: rehearse GRAPH SCRIPT")?;
         return ended();
     };
-    rehearse(&rt, graph.as_str(), script.as_str())
+    match rehearse(&rt, graph.as_str(), script.as_str()) {
+        Ok(()) => Ok(()),
+        Err(failure) => {
+            failure.report(&rt)?;
+            ended()
+        }
+    }
 }
