@@ -13,12 +13,11 @@ use Rattle.std.proofs.shelf.Tests.{and-parts, and-from}
 use Rattle.std.specs.Written.{decimal}
 use Rattle.std.specs.declared.option.Option.the-variants.{Some, None}
 use Rattle.text.specs.Number.{most}
-use Rattle.text.specs.Name.{visible}
-use Rattle.text.specs.Words.{wordsOf, linesOf, oneOf, twoOf}
-use Rattle.text.specs.Laws.{lacks, allLack, spaced}
-use Rattle.text.proofs.Numbers.{number-back, decimal-lacks}
-use Rattle.text.proofs.Joins.{words-join, lines-join, lacks-spaced}
-use Rattle.text.proofs.Characters.{visible-lacks, name-lacks}
+use Rattle.text.specs.Words.{wordsOf, linesOf}
+use Rattle.text.specs.Laws.{lacks, allLack}
+use Rattle.text.proofs.Joins.{lines-join}
+use Rattle.text.proofs.Characters.{name-lacks}
+use Rattle.text.proofs.Spelling.{plain-number, one-plain, two-plain, one-back, two-back, with-plain, line-lacks, line-words}
 use Rattle.model.specs.declared.Kind.{Kind}
 use Rattle.model.specs.declared.Kind.the-variants.{Source, Keep, Scale, Group, Spread, Window, Sink}
 use Rattle.model.specs.declared.Edge.{Edge}
@@ -33,26 +32,6 @@ use Rattle.graph.specs.Verdict.{graph, judged, judgedDraft, verdict, nameIn}
 use Rattle.graph.specs.Write.{kindWords, workerLine, edgeWords, edgeLine, workerTexts, edgeTexts, textOf, writable, allWritable, countFrom, WriteRead}
 use Rattle.graph.proofs.Lowest.{all-found}
 
--- words that lack both spaces and line feeds
-abbrev Plain : List ℕ → Type 0
-Plain w = (e : ℕ) → e ≤ 32 → lacks e w ≡ true
-
-plain-number : (n : ℕ) → n ≤ most → Plain (decimal n)
-plain-number n le e l = decimal-lacks e n (omega arith) le
-
-one-plain : (a : List ℕ) → Plain a → (e : ℕ) → e ≤ 32 → allLack e (a ∷ []) ≡ true
-one-plain a p e l = and-from (lacks e a) true (p e l) refl
-
-two-plain : (a b : List ℕ) → Plain a → Plain b → (e : ℕ) → e ≤ 32 → allLack e (a ∷ b ∷ []) ≡ true
-two-plain a b p q e l = and-from (lacks e a) (allLack e (b ∷ [])) (p e l) (one-plain b q e l)
-
--- a number written and read
-one-back : (n : ℕ) → n ≤ most → oneOf (decimal n ∷ []) ≡ Some n
-one-back n le = number-back n le
-
-two-back : (m n : ℕ) → m ≤ most → n ≤ most → twoOf (decimal m ∷ decimal n ∷ []) ≡ Some (m, n)
-two-back m n lm ln = rw (number-back m lm, number-back n ln) refl
-
 -- what a worker's words say
 kind-back : (name : List ℕ) (k : Kind) → writable name k ≡ true → lineOf (codes "worker" ∷ kindWords name k) ≡ Some (line.Worker k)
 kind-back name Source h = rw h refl
@@ -62,13 +41,6 @@ kind-back name (Group by) h = rw (one-back by (leb-true by most h)) refl
 kind-back name Spread h = refl
 kind-back name (Window long) h = rw (one-back long (leb-true long most h)) refl
 kind-back name Sink h = refl
-
--- the words of a line have no space and no line feed
-word-plain : (w : List ℕ) → visible w ≡ true → Plain w
-word-plain w v e l = visible-lacks e w l v
-
-with-plain : (e : ℕ) (w : List ℕ) (ws : List (List ℕ)) → visible w ≡ true → e ≤ 32 → allLack e ws ≡ true → allLack e (w ∷ ws) ≡ true
-with-plain e w ws v l h = and-from (lacks e w) (allLack e ws) (word-plain w v e l) h
 
 kind-plain : (name : List ℕ) (k : Kind) → writable name k ≡ true → (e : ℕ) → e ≤ 32 → allLack e (kindWords name k) ≡ true
 kind-plain name Source h e l = with-plain e (codes "source") (name ∷ []) refl l (one-plain name (λ d m. name-lacks d name m h) e l)
@@ -84,13 +56,6 @@ kind-plain name (Group by) h e l = with-plain e (codes "group") (decimal by ∷ 
 kind-plain name Spread h e l = with-plain e (codes "spread") [] refl l refl
 kind-plain name (Window long) h e l = with-plain e (codes "window") (decimal long ∷ []) refl l (one-plain (decimal long) (plain-number long (leb-true long most h)) e l)
 kind-plain name Sink h e l = with-plain e (codes "sink") [] refl l refl
-
--- a line, by its words: it has no line feed, and its words are those
-line-lacks : (w : List ℕ) (ws : List (List ℕ)) → visible w ≡ true → ((e : ℕ) → e ≤ 32 → allLack e ws ≡ true) → lacks 10 (spaced w ws) ≡ true
-line-lacks w ws v h = lacks-spaced 10 w ws (λ is. omega (arith, is)) (with-plain 10 w ws v (omega arith) (h 10 (omega arith)))
-
-line-words : (w : List ℕ) (ws : List (List ℕ)) → visible w ≡ true → ((e : ℕ) → e ≤ 32 → allLack e ws ≡ true) → wordsOf (spaced w ws) ≡ w ∷ ws
-line-words w ws v h = words-join w ws (with-plain 32 w ws v (omega arith) (h 32 (omega arith)))
 
 worker-words : (name : List ℕ) (k : Kind) → writable name k ≡ true → wordsOf (workerLine name k) ≡ codes "worker" ∷ kindWords name k
 worker-words name k h = line-words (codes "worker") (kindWords name k) refl (kind-plain name k h)

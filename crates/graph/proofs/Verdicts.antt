@@ -6,18 +6,18 @@ use mathlib.Core.List.{List, [], _∷_}
 use Prim.Native.Nat.{ℕ, zero, suc, _+_, _≤_, _<_}
 use native.Mathlib.Omega.{arith}
 use native.Mathlib.Nat.{add-zero, zero-add}
-use borrow.Author.Tests.{clash, eqb-true, eqb-false, eq-eqb}
+use borrow.Author.Tests.{clash, eqb-true, eqb-false}
 use lib.Dec.{eqb}
 use lib.ListN.{length, getD, take}
 use Rattle.std.specs.declared.option.Option.{Option}
 use Rattle.std.specs.declared.option.Option.the-variants.{Some, None}
 use Rattle.text.specs.Words.{wordsOf, linesOf}
 use Rattle.model.specs.declared.Kind.the-variants.{Source}
-use Rattle.model.specs.Graph.{Topology, noEdge, workerProper, edgeProper}
+use Rattle.model.specs.Graph.{noEdge, workerProper, edgeProper}
 use Rattle.graph.specs.declared.line.Line.{Line}
 use Rattle.graph.specs.Line.{lineOf}
 use Rattle.graph.specs.Draft.{Shape, Drafted, whole, badLine, topology, bare, roomFor, addedTo, stepped, draftFrom, drafted}
-use Rattle.graph.specs.Faults.{lowest, workerFaults, faultOf}
+use Rattle.graph.specs.Faults.{workerFaults, faultOf}
 use Rattle.graph.specs.Verdict.{Verdict, graph, refused, judged, judgedDraft, verdict}
 use Rattle.graph.specs.Applies.{saidWith, saidFrom, Unread, notALine, tooMany, noWorker, Faulty, worker, edge, said, Applies, one, two, LowestWins, ReadIsSaid}
 use Rattle.graph.proofs.Least.{LeastOf, least-like, Fault, lowest-least}

@@ -7,7 +7,7 @@ use Rattle.std.specs.shelf.Text.{sameBytes}
 use Rattle.std.specs.Options.{mapped}
 use Rattle.std.specs.declared.option.Option.{Option}
 use Rattle.std.specs.declared.option.Option.the-variants.{Some, None}
-use Rattle.text.specs.Words.{noneOf, oneOf, twoOf}
+use Rattle.text.specs.Words.{noneOf, oneOf, twoOf, lookup}
 use Rattle.text.specs.Name.{isName}
 use Rattle.model.specs.declared.Kind.{Kind}
 use Rattle.model.specs.declared.Kind.the-variants as kind
@@ -16,15 +16,13 @@ use Rattle.graph.specs.declared.line.Name.the-variants as name
 use Rattle.graph.specs.declared.line.Line.{Line}
 use Rattle.graph.specs.declared.line.Line.the-variants as line
 
+abbrev pub kindTable : List (List ℕ × Name)
+kindTable =
+    (codes "source", name.Source) ∷ (codes "keep", name.Keep) ∷ (codes "scale", name.Scale) ∷ (codes "group", name.Group)
+    ∷ (codes "spread", name.Spread) ∷ (codes "window", name.Window) ∷ (codes "sink", name.Sink) ∷ []
+
 abbrev pub kindNamed : List ℕ → Option Name
-kindNamed word =
-    cond (sameBytes word (codes "source")) (Some name.Source)
-    (cond (sameBytes word (codes "keep")) (Some name.Keep)
-    (cond (sameBytes word (codes "scale")) (Some name.Scale)
-    (cond (sameBytes word (codes "group")) (Some name.Group)
-    (cond (sameBytes word (codes "spread")) (Some name.Spread)
-    (cond (sameBytes word (codes "window")) (Some name.Window)
-    (cond (sameBytes word (codes "sink")) (Some name.Sink) None))))))
+kindNamed word = lookup word kindTable
 
 -- exactly a journal's name
 abbrev pub journalOf : List (List ℕ) → Bool

@@ -3,25 +3,23 @@ use mathlib.Core.List.{List, [], _∷_}
 use mathlib.Core.Bool.{cond}
 use Prim.Native.Nat.{ℕ}
 use lib.Chars.{codes}
-use Rattle.std.specs.shelf.Text.{sameBytes}
 use Rattle.std.specs.Options.{mapped}
 use Rattle.std.specs.declared.option.Option.{Option}
 use Rattle.std.specs.declared.option.Option.the-variants.{Some, None}
-use Rattle.text.specs.Words.{noneOf, oneOf, twoOf}
+use Rattle.text.specs.Words.{noneOf, oneOf, twoOf, lookup}
 use Rattle.model.specs.declared.Call.the-variants.{Step, Feed, Checkpoint, Commit, Crash}
 use Rattle.scripts.specs.declared.command.Word.{Word}
 use Rattle.scripts.specs.declared.command.Word.the-variants as word
 use Rattle.scripts.specs.declared.command.Command.{Command}
 use Rattle.scripts.specs.declared.command.Command.the-variants as command
 
+abbrev pub wordTable : List (List ℕ × Word)
+wordTable =
+    (codes "step", word.Step) ∷ (codes "feed", word.Feed) ∷ (codes "cut", word.Cut) ∷ (codes "declare", word.Declare)
+    ∷ (codes "stop", word.Stop) ∷ (codes "show", word.Show) ∷ []
+
 abbrev pub wordNamed : List ℕ → Option Word
-wordNamed w =
-    cond (sameBytes w (codes "step")) (Some word.Step)
-    (cond (sameBytes w (codes "feed")) (Some word.Feed)
-    (cond (sameBytes w (codes "cut")) (Some word.Cut)
-    (cond (sameBytes w (codes "declare")) (Some word.Declare)
-    (cond (sameBytes w (codes "stop")) (Some word.Stop)
-    (cond (sameBytes w (codes "show")) (Some word.Show) None)))))
+wordNamed w = lookup w wordTable
 
 abbrev pub commandWith : Word → List (List ℕ) → Option Command
 commandWith word.Step ws = mapped (λ p. command.Call (Step (p .0) (p .1))) (twoOf ws)

@@ -3,3 +3,5 @@ pub mod Parts
 pub mod Characters
 pub mod Numbers
 pub mod Joins
+pub mod Tables
+pub mod Spelling

@@ -1,5 +1,6 @@
 -- What reading promises in the words of writing.
 use mathlib.Core.Path.{_≡_}
+use mathlib.Core.Logic.{_⊎_}
 use mathlib.Core.Bool.{Bool, true, _&&_, not}
 use mathlib.Core.List.{List, [], _∷_, _++_}
 use Prim.Native.Nat.{ℕ, _≤_}
@@ -27,9 +28,17 @@ abbrev pub spaced : List ℕ → List (List ℕ) → List ℕ
 spaced w [] = w
 spaced w (v ∷ vs) = w ++ 32 ∷ spaced v vs
 
+abbrev pub joined : List (List ℕ) → List ℕ
+joined [] = []
+joined (w ∷ ws) = spaced w ws
+
 -- Words without spaces, put one space apart, are the words of that line.
 abbrev pub WordsJoin : Type 0
 WordsJoin = (w : List ℕ) (ws : List (List ℕ)) → allLack 32 (w ∷ ws) ≡ true → wordsOf (spaced w ws) ≡ w ∷ ws
+
+-- The words of a line have no spaces and, put one space apart, are that line.
+abbrev pub WordsAre : Type 0
+WordsAre = (l : List ℕ) → (allLack 32 (wordsOf l) ≡ true) × (joined (wordsOf l) ≡ l)
 
 -- lines, each with its line feed
 abbrev pub ended : List (List ℕ) → List ℕ
@@ -39,3 +48,7 @@ ended (l ∷ ls) = l ++ 10 ∷ ended ls
 -- Lines without line feeds, each ended by one, are the lines of that text.
 abbrev pub LinesJoin : Type 0
 LinesJoin = (ls : List (List ℕ)) → allLack 10 ls ≡ true → linesOf (ended ls) ≡ ls
+
+-- The lines of a text have no line feeds and, each ended by one, are that text, perhaps with a line feed more at its end.
+abbrev pub LinesAre : Type 0
+LinesAre = (t : List ℕ) → (allLack 10 (linesOf t) ≡ true) × ((ended (linesOf t) ≡ t) ⊎ (ended (linesOf t) ≡ t ++ 10 ∷ []))

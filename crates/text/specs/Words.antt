@@ -6,6 +6,7 @@ use lib.Dec.{eqb}
 use denote.Ref.{RefT}
 use Rattle.std.specs.declared.option.Option.{Option}
 use Rattle.std.specs.declared.option.Option.the-variants.{Some, None}
+use Rattle.std.specs.shelf.Text.{sameBytes}
 use Rattle.text.specs.Number.{numberOf}
 
 -- a byte put before the first of some parts
@@ -53,3 +54,8 @@ both (Some a) (Some b) = Some (a, b)
 abbrev pub twoOf : List (List ℕ) → Option (ℕ × ℕ)
 twoOf [] = None
 twoOf (w ∷ ws) = both (numberOf w) (oneOf ws)
+
+-- what a table has for a word
+abbrev pub lookup : {A : Type 0} → List ℕ → List (List ℕ × A) → Option A
+lookup w [] = None
+lookup w (row ∷ rows) = cond (sameBytes w (row .0)) (Some (row .1)) (lookup w rows)

@@ -6,9 +6,11 @@ mod words;
 
 pub use digits::number;
 pub use name::is_name;
+pub use theorems::lines_are;
 pub use theorems::lines_join;
 pub use theorems::name_is;
 pub use theorems::number_is;
+pub use theorems::words_are;
 pub use theorems::words_join;
 pub use words::line_at;
 pub use words::next_line;
