@@ -60,7 +60,7 @@ kind-plain name Sink h e l = with-plain e (codes "sink") [] refl l refl
 worker-words : (name : List ℕ) (k : Kind) → writable name k ≡ true → wordsOf (workerLine name k) ≡ codes "worker" ∷ kindWords name k
 worker-words name k h = line-words (codes "worker") (kindWords name k) refl (kind-plain name k h)
 
-worker-back : (name : List ℕ) (k : Kind) → writable name k ≡ true → lineOf (wordsOf (workerLine name k)) ≡ Some (line.Worker k)
+pub worker-back : (name : List ℕ) (k : Kind) → writable name k ≡ true → lineOf (wordsOf (workerLine name k)) ≡ Some (line.Worker k)
 worker-back name k h = ap lineOf (worker-words name k h) ∙ kind-back name k h
 
 abbrev Fits : Edge → Type 0
@@ -69,7 +69,7 @@ Fits x = (x .from ≤ most) × (x .to ≤ most)
 edge-plain : (x : Edge) → Fits x → (e : ℕ) → e ≤ 32 → allLack e (edgeWords x) ≡ true
 edge-plain x f e l = two-plain (decimal (x .from)) (decimal (x .to)) (plain-number (x .from) (f .0)) (plain-number (x .to) (f .1)) e l
 
-edge-back : (x : Edge) → Fits x → lineOf (wordsOf (edgeLine x)) ≡ Some (line.Edge x)
+pub edge-back : (x : Edge) → Fits x → lineOf (wordsOf (edgeLine x)) ≡ Some (line.Edge x)
 edge-back x f = ap lineOf (line-words (codes "edge") (edgeWords x) refl (edge-plain x f)) ∙ rw (two-back (x .from) (x .to) (f .0) (f .1)) refl
 
 -- the lines have no line feeds

@@ -4,3 +4,4 @@ pub mod Sound
 pub mod Back
 pub mod Least
 pub mod Verdicts
+pub mod Exact

@@ -7,13 +7,18 @@ use lib.Chars.{codes}
 use lib.Dec.{leb}
 use lib.ListN.{length, getD}
 use Rattle.std.specs.Written.{decimal}
+use Rattle.std.specs.declared.option.Option.the-variants.{Some}
 use Rattle.text.specs.Number.{most}
 use Rattle.text.specs.Name.{isName}
+use Rattle.text.specs.Words.{wordsOf}
 use Rattle.text.specs.Laws.{spaced, ended}
 use Rattle.model.specs.declared.Kind.{Kind}
 use Rattle.model.specs.declared.Kind.the-variants.{Source, Keep, Scale, Group, Spread, Window, Sink}
 use Rattle.model.specs.declared.Edge.{Edge}
 use Rattle.model.specs.Graph.{Topology, kindAt, Proper}
+use Rattle.graph.specs.declared.line.Line.{Line}
+use Rattle.graph.specs.declared.line.Line.the-variants as line
+use Rattle.graph.specs.Line.{lineOf}
 use Rattle.graph.specs.Verdict.{graph, verdict, nameIn}
 
 -- the words of a kind; a source with its journal's name
@@ -61,6 +66,22 @@ writable name Sink = true
 abbrev pub allWritable : (names : List (List ℕ)) → ℕ → List Kind → Bool
 allWritable names w [] = true
 allWritable names w (k ∷ ks) = writable (getD names w []) k && allWritable names (w + 1) ks
+
+-- the same for a line; the name is that of a source
+abbrev pub lineText : (name : List ℕ) → Line → List ℕ
+lineText name (line.Worker k) = workerLine name k
+lineText name (line.Edge x) = edgeLine x
+
+abbrev pub lineWritable : (name : List ℕ) → Line → Bool
+lineWritable name (line.Worker k) = writable name k
+lineWritable name (line.Edge x) = leb (x .from) most && leb (x .to) most
+
+-- A line of a graph is just what is written for what it says: the words of the kind or `edge`, plain decimals, and for a source some name.
+abbrev pub LineIs : Type 0
+LineIs =
+    (l : List ℕ) (said : Line) →
+    (lineOf (wordsOf l) ≡ Some said → (name : List ℕ) × (lineWritable name said ≡ true) × (l ≡ lineText name said))
+    × ((name : List ℕ) → lineWritable name said ≡ true → l ≡ lineText name said → lineOf (wordsOf l) ≡ Some said)
 
 -- so many numbers from n on
 abbrev pub countFrom : ℕ → ℕ → List ℕ

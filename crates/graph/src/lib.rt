@@ -19,6 +19,7 @@ pub use line::Name;
 pub use line::read_line;
 pub use reading::Refused;
 pub use reading::read;
+pub use theorems::line_is;
 pub use theorems::lowest_wins;
 pub use theorems::read_is_proper;
 pub use theorems::read_is_said;

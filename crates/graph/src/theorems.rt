@@ -1,10 +1,16 @@
 // What is proved of the definitions, each named by a contract.
 ghost use Rattle.graph.specs.Applies.{LowestWins, ReadIsSaid};
 ghost use Rattle.graph.specs.Verdict.{ReadIsProper};
-ghost use Rattle.graph.specs.Write.{WriteRead};
+ghost use Rattle.graph.specs.Write.{LineIs, WriteRead};
 
 pub fn read_is_proper() -> u8
     ensures { λ _. ⌜ ReadIsProper ⌝ }
+{
+    0
+}
+
+pub fn line_is() -> u8
+    ensures { λ _. ⌜ LineIs ⌝ }
 {
     0
 }

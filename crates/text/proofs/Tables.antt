@@ -20,6 +20,9 @@ module _ {A : Type 0} where
   pub not-some : (a : A) → None ≡ Some a → ⊥
   not-some a h = let z : _≡_ {A = ℕ} 0 1 = cc in omega arith
 
+  pub some-same : {a b : A} → Some a ≡ Some b → a ≡ b
+  some-same h = cc
+
   -- something came of one of two ways
   pub which-way : (t : Bool) (x y : Option A) (a : A) → cond t x y ≡ Some a → ((t ≡ true) × (x ≡ Some a)) ⊎ (y ≡ Some a)
   which-way true x y a h = inl (refl, h)
@@ -29,27 +32,21 @@ module _ {A : Type 0} where
   only-way true x a h = (refl, h)
   only-way false x a h = absurd (not-some a h)
 
-  -- a word stands in a table
-  abbrev pub Entry : List ℕ → A → List (List ℕ × A) → Type 0
-  Entry w a [] = ⊥
-  Entry w a (row ∷ rows) = ((w ≡ row .0) × (row .1 ≡ a)) ⊎ Entry w a rows
+  -- each row of a table has the word of its value; so has a word that is found
+  abbrev pub Keyed : (A → List ℕ) → List (List ℕ × A) → Type 0
+  Keyed key [] = Unit {0}
+  Keyed key (row ∷ rows) = (row .0 ≡ key (row .1)) × Keyed key rows
 
-  pub lookup-found : (w : List ℕ) (a : A) (rows : List (List ℕ × A)) → lookup w rows ≡ Some a → Entry w a rows
-  lookup-found w a [] h = absurd (not-some a h)
-  lookup-found w a (row ∷ rows) h = elim (which-way (sameBytes w (row .0)) (Some (row .1)) (lookup w rows) a h) [
-      inl p ↦ inl (sameBytes-decides w (row .0) .0 (p .0), some-same (p .1))
-    | inr rest ↦ inr (lookup-found w a rows rest)
+  pub lookup-word : (key : A → List ℕ) (rows : List (List ℕ × A)) → Keyed key rows → (w : List ℕ) (a : A) → lookup w rows ≡ Some a → w ≡ key a
+  lookup-word key [] keyed w a h = absurd (not-some a h)
+  lookup-word key (row ∷ rows) (first, keyed) w a h = elim (which-way (sameBytes w (row .0)) (Some (row .1)) (lookup w rows) a h) [
+      inl p ↦ sameBytes-decides w (row .0) .0 (p .0) ∙ (first ∙ ap key (some-same (p .1)))
+    | inr rest ↦ lookup-word key rows keyed w a rest
   ]
-    where
-      some-same : Some (row .1) ≡ Some a → row .1 ≡ a
-      some-same e = cc
 
 pub mapped-from : {A B : Type 0} (f : A → B) (o : Option A) (b : B) → mapped f o ≡ Some b → (a : A) × (o ≡ Some a) × (f a ≡ b)
 mapped-from f None b h = absurd (not-some b h)
-mapped-from f (Some a) b h = (a, refl, same h)
-  where
-    same : Some (f a) ≡ Some b → f a ≡ b
-    same e = cc
+mapped-from f (Some a) b h = (a, refl, some-same h)
 
 pub none-is : (ws : List (List ℕ)) → noneOf ws ≡ true → ws ≡ []
 none-is [] h = refl
@@ -65,10 +62,7 @@ one-is (w ∷ ws) n h =
 both-from : (a b : Option ℕ) (p : ℕ × ℕ) → both a b ≡ Some p → (a ≡ Some (p .0)) × (b ≡ Some (p .1))
 both-from None b p h = absurd (not-some p h)
 both-from (Some a) None p h = absurd (not-some p h)
-both-from (Some a) (Some b) p h = let e : (a, b) ≡ p = same h in (ap (λ q. Some (q .0)) e, ap (λ q. Some (q .1)) e)
-  where
-    same : Some (a, b) ≡ Some p → (a, b) ≡ p
-    same k = cc
+both-from (Some a) (Some b) p h = let e : (a, b) ≡ p = some-same h in (ap (λ q. Some (q .0)) e, ap (λ q. Some (q .1)) e)
 
 pub two-is : (ws : List (List ℕ)) (p : ℕ × ℕ) → twoOf ws ≡ Some p → (ws ≡ decimal (p .0) ∷ decimal (p .1) ∷ []) × ((p .0 ≤ most) × (p .1 ≤ most))
 two-is [] p h = absurd (not-some p h)
