@@ -1,6 +1,6 @@
 -- A line that is read is what is written for it.
 use mathlib.Core.Path.{_≡_, refl, ap, sym, _∙_, subst}
-use mathlib.Core.Logic.{_⊎_, inl, inr}
+use mathlib.Core.Logic.{inl, inr}
 use mathlib.Core.Bool.{Bool, true, false, cond, _&&_}
 use mathlib.Core.List.{List, [], _∷_}
 use Prim.Native.Nat.{ℕ, _≤_}
@@ -26,7 +26,7 @@ use Rattle.graph.specs.declared.line.Name.the-variants as name
 use Rattle.graph.specs.declared.line.Line.{Line}
 use Rattle.graph.specs.declared.line.Line.the-variants as line
 use Rattle.graph.specs.Line.{kindTable, kindNamed, journalOf, kindOf, kindWith, workerOf, edgeOf, lineOf}
-use Rattle.graph.specs.Write.{kindWords, edgeWords, lineText, writable, lineWritable, LineIs}
+use Rattle.graph.specs.Write.{kindWords, lineText, writable, lineWritable, LineIs}
 use Rattle.graph.proofs.Back.{worker-back, edge-back}
 
 -- the word of a kind
@@ -99,7 +99,7 @@ worker-written (w ∷ ws) said h =
     let q = named-kind (kindNamed w) ws (m .0) (m .1) in
     let s = spelt (q .0) ws (m .0) (q .2) in
     subst (Written (codes "worker" ∷ w ∷ ws)) (m .2)
-        (s .0, s .1, ap (λ x. joined (codes "worker" ∷ x)) (ap (λ v. v ∷ ws) (kind-word w (q .0) (q .1)) ∙ s .2))
+    (s .0, s .1, ap (λ x. joined (codes "worker" ∷ x)) (ap (λ v. v ∷ ws) (kind-word w (q .0) (q .1)) ∙ s .2))
 
 edge-written : (ws : List (List ℕ)) (said : Line) → edgeOf ws ≡ Some said → Written (codes "edge" ∷ ws) said
 edge-written ws said h =
@@ -110,7 +110,7 @@ edge-written ws said h =
 line-written : (ws : List (List ℕ)) (said : Line) → lineOf ws ≡ Some said → Written ws said
 line-written [] said h = absurd (not-some said h)
 line-written (w ∷ ws) said h = elim (which-way (sameBytes w (codes "worker")) (workerOf ws) (cond (sameBytes w (codes "edge")) (edgeOf ws) None) said h) [
-    inl p ↦ subst (λ v. Written (v ∷ ws) said) (sym (sameBytes-decides w (codes "worker") .0 (p .0))) (worker-written ws said (p .1))
+  | inl p ↦ subst (λ v. Written (v ∷ ws) said) (sym (sameBytes-decides w (codes "worker") .0 (p .0))) (worker-written ws said (p .1))
   | inr rest ↦ let p = only-way (sameBytes w (codes "edge")) (edgeOf ws) said rest in
       subst (λ v. Written (v ∷ ws) said) (sym (sameBytes-decides w (codes "edge") .0 (p .0))) (edge-written ws said (p .1))
 ]

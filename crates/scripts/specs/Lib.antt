@@ -1,3 +1,4 @@
 pub mod Command
 pub mod Fresh
 pub mod Show
+pub mod Write

@@ -2,6 +2,7 @@
 mod command;
 mod fresh;
 mod show;
+mod theorems;
 
 pub use command::Command;
 pub use command::Word;
@@ -9,6 +10,7 @@ pub use command::read_command;
 pub use fresh::Answer;
 pub use fresh::answer_to;
 pub use show::fresh_text;
+pub use theorems::command_is;
 
 #[cfg(test)]
 mod tests;

@@ -65,6 +65,7 @@ parts-lack e base (b ∷ bs) h = go (eqb b e) refl (partsOf e base bs) (parts-la
     with-one other (w ∷ ws) k =
         let p = and-parts (lacks e w) (allLack e ws) k in
         and-from (lacks e (b ∷ w)) (allLack e ws) (and-from (not (eqb b e)) (lacks e w) (not-from-false (eqb b e) other) (p .0)) (p .1)
+
     go : (t : Bool) → eqb b e ≡ t → (ws : List (List ℕ)) → allLack e ws ≡ true → allLack e (cond t ([] ∷ ws) (onto b ws)) ≡ true
     go true is ws k = k
     go false is ws k = with-one is ws k

@@ -40,7 +40,7 @@ module _ {A : Type 0} where
   pub lookup-word : (key : A → List ℕ) (rows : List (List ℕ × A)) → Keyed key rows → (w : List ℕ) (a : A) → lookup w rows ≡ Some a → w ≡ key a
   lookup-word key [] keyed w a h = absurd (not-some a h)
   lookup-word key (row ∷ rows) (first, keyed) w a h = elim (which-way (sameBytes w (row .0)) (Some (row .1)) (lookup w rows) a h) [
-      inl p ↦ sameBytes-decides w (row .0) .0 (p .0) ∙ (first ∙ ap key (some-same (p .1)))
+    | inl p ↦ sameBytes-decides w (row .0) .0 (p .0) ∙ (first ∙ ap key (some-same (p .1)))
     | inr rest ↦ lookup-word key rows keyed w a rest
   ]
 
