@@ -10,13 +10,7 @@ mod reading;
 mod theorems;
 
 pub use checked::Graph;
-pub use draft::Draft;
-pub use draft::Lines;
-pub use faults::fault;
 pub use journal::journal_name;
-pub use line::Line;
-pub use line::Name;
-pub use line::read_line;
 pub use reading::Refused;
 pub use reading::read;
 pub use theorems::line_is;

@@ -58,18 +58,12 @@ impl Kind {
     pub fn is_source(self) -> bool
         ensures { λ r. ⌜ r ≡ isSource self ⌝ }
     {
-        match self {
-            Kind::Source => true,
-            _ => false,
-        }
+        matches!(self, Kind::Source)
     }
 
     pub fn is_sink(self) -> bool
         ensures { λ r. ⌜ r ≡ isSink self ⌝ }
     {
-        match self {
-            Kind::Sink => true,
-            _ => false,
-        }
+        matches!(self, Kind::Sink)
     }
 }

@@ -5,7 +5,6 @@ mod show;
 mod theorems;
 
 pub use command::Command;
-pub use command::Word;
 pub use command::read_command;
 pub use fresh::Answer;
 pub use fresh::answer_to;
