@@ -18,6 +18,3 @@ pub use theorems::lowest_wins;
 pub use theorems::read_is_proper;
 pub use theorems::read_is_said;
 pub use theorems::write_read;
-
-#[cfg(test)]
-mod tests;

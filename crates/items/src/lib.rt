@@ -56,6 +56,3 @@ impl Refusal {
         }
     }
 }
-
-#[cfg(test)]
-mod tests;

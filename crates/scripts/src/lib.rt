@@ -10,6 +10,3 @@ pub use fresh::Answer;
 pub use fresh::answer_to;
 pub use show::fresh_text;
 pub use theorems::command_is;
-
-#[cfg(test)]
-mod tests;

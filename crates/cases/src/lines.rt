@@ -1,7 +1,7 @@
 // The answers of a graph that has not begun.
-use crate::fresh::Answer;
-use crate::fresh::answer_to;
 use graph::Graph;
+use scripts::Answer;
+use scripts::answer_to;
 use std::test::*;
 
 // 0 for done, the number of a refusal, 11 for what is shown and 12 for what is not built.

@@ -1,5 +1,5 @@
 // One text for each reason of a refusal, and a graph of every kind.
-use crate::reading::read;
+use graph::read;
 use std::test::*;
 
 // The number and the line of a refusal, 0 and 0 where the text is a graph.
