@@ -26,7 +26,7 @@ use Rattle.model.proofs.Proper.{proper-is}
 use Rattle.graph.specs.declared.line.Line.{Line}
 use Rattle.graph.specs.declared.line.Line.the-variants as line
 use Rattle.graph.specs.Line.{lineOf}
-use Rattle.graph.specs.Draft.{Shape, whole, badLine, bare, roomFor, addedTo, stepped, draftFrom, drafted}
+use Rattle.graph.specs.Draft.{Shape, complete, badLine, bare, roomFor, addedTo, stepped, draftFrom, drafted}
 use Rattle.graph.specs.Faults.{workerFaults, faultOf}
 use Rattle.graph.specs.Verdict.{graph, judged, judgedDraft, verdict, nameIn}
 use Rattle.graph.specs.Write.{kindWords, workerLine, edgeWords, edgeLine, workerTexts, edgeTexts, textOf, writable, allWritable, countFrom, WriteRead}
@@ -57,7 +57,7 @@ kind-plain name Spread h e l = with-plain e (codes "spread") [] refl l refl
 kind-plain name (Window long) h e l = with-plain e (codes "window") (decimal long ∷ []) refl l (one-plain (decimal long) (plain-number long (leb-true long most h)) e l)
 kind-plain name Sink h e l = with-plain e (codes "sink") [] refl l refl
 
-worker-words : (name : List ℕ) (k : Kind) → writable name k ≡ true → wordsOf (workerLine name k) ≡ codes "worker" ∷ kindWords name k
+pub worker-words : (name : List ℕ) (k : Kind) → writable name k ≡ true → wordsOf (workerLine name k) ≡ codes "worker" ∷ kindWords name k
 worker-words name k h = line-words (codes "worker") (kindWords name k) refl (kind-plain name k h)
 
 pub worker-back : (name : List ℕ) (k : Kind) → writable name k ≡ true → lineOf (wordsOf (workerLine name k)) ≡ Some (line.Worker k)
@@ -145,13 +145,13 @@ final g = shape (g .kinds) (g .edges) (countFrom 1 (length (g .kinds))) (countFr
 text-lines : (g : Topology) (names : List (List ℕ)) → Proper g → allWritable names 0 (g .kinds) ≡ true → linesOf (textOf names g) ≡ workerTexts names 0 (g .kinds) ++ edgeTexts (g .edges)
 text-lines g names p h = lines-join (workerTexts names 0 (g .kinds) ++ edgeTexts (g .edges)) (all-lack names 0 (g .kinds) (edgeTexts (g .edges)) h (edges-lack (g .edges) (proper-fits g p)))
 
-draft-back : (g : Topology) (names : List (List ℕ)) → Proper g → allWritable names 0 (g .kinds) ≡ true → drafted (textOf names g) ≡ whole (final g)
+draft-back : (g : Topology) (names : List (List ℕ)) → Proper g → allWritable names 0 (g .kinds) ≡ true → drafted (textOf names g) ≡ complete (final g)
 draft-back g names p h =
     let some : eqb (length (g .kinds)) 0 ≡ false = ne-eqb (length (g .kinds)) 0 (let l = p .some in omega (arith, l)) in
     let a = workers-back names 0 (g .kinds) 1 [] [] [] [] (edgeTexts (g .edges)) h (let f = p .few in omega (arith, f)) in
     let b = edges-back (g .edges) (1 + length (g .kinds)) (g .kinds) [] (countFrom 1 (length (g .kinds))) [] (proper-fits g p) (let f = p .fewEdges in omega (arith, f)) in
-    let c : draftFrom ((1 + length (g .kinds)) + length (g .edges)) (final g) [] ≡ whole (final g)
-    = ap (λ t. cond t (badLine ((1 + length (g .kinds)) + length (g .edges))) (whole (final g))) some in
+    let c : draftFrom ((1 + length (g .kinds)) + length (g .edges)) (final g) [] ≡ complete (final g)
+    = ap (λ t. cond t (badLine ((1 + length (g .kinds)) + length (g .edges))) (complete (final g))) some in
     ap (draftFrom 1 bare) (text-lines g names p h) ∙ (a ∙ (b ∙ c))
 
 no-fault : (g : Topology) → Proper g → faultOf (final g) ≡ None

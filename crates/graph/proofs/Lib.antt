@@ -5,3 +5,4 @@ pub mod Back
 pub mod Least
 pub mod Verdicts
 pub mod Exact
+pub mod Named

@@ -16,7 +16,7 @@ use Rattle.model.specs.declared.Kind.the-variants.{Source}
 use Rattle.model.specs.Graph.{noEdge, workerProper, edgeProper}
 use Rattle.graph.specs.declared.line.Line.{Line}
 use Rattle.graph.specs.Line.{lineOf}
-use Rattle.graph.specs.Draft.{Shape, Drafted, whole, badLine, topology, bare, roomFor, addedTo, stepped, draftFrom, drafted}
+use Rattle.graph.specs.Draft.{Shape, Drafted, complete, badLine, topology, bare, roomFor, addedTo, stepped, draftFrom, drafted}
 use Rattle.graph.specs.Faults.{workerFaults, faultOf}
 use Rattle.graph.specs.Verdict.{Verdict, graph, refused, judged, judgedDraft, verdict}
 use Rattle.graph.specs.Applies.{saidWith, saidFrom, Unread, notALine, tooMany, noWorker, Faulty, worker, edge, said, Applies, one, two, LowestWins, ReadIsSaid}
@@ -25,7 +25,7 @@ use Rattle.graph.proofs.Least.{LeastOf, least-like, Fault, lowest-least}
 -- what a draft comes to: the first line that is none of a graph, or all that was said
 abbrev Drawn : ℕ → Shape → List (List ℕ) → Drafted → Type 0
 Drawn n s ls (badLine k) = LeastOf (Unread n s ls) (Some k)
-Drawn n s ls (whole t) = LeastOf (Unread n s ls) None × (saidFrom n s ls ≡ t)
+Drawn n s ls (complete t) = LeastOf (Unread n s ls) None × (saidFrom n s ls ≡ t)
 
 not-before : (n : ℕ) (s : Shape) (ls : List (List ℕ)) (m : ℕ) → Unread n s ls m → n ≤ m
 not-before n s ls m (notALine i l is no-line) = omega arith
@@ -36,7 +36,7 @@ none-some : (o : Option Line) (x : Line) → o ≡ None → o ≡ Some x → ⊥
 none-some o x a b = let z : _≡_ {A = ℕ} 0 1 = cc in omega arith
 
 -- at the end
-drawn-end : (n : ℕ) (s : Shape) → Drawn n s [] (cond (eqb (length (s .kinds)) 0) (badLine n) (whole s))
+drawn-end : (n : ℕ) (s : Shape) → Drawn n s [] (cond (eqb (length (s .kinds)) 0) (badLine n) (complete s))
 drawn-end n s = go (eqb (length (s .kinds)) 0) refl
   where
     absent : (length (s .kinds) ≡ 0 → ⊥) → (m : ℕ) → Unread n s [] m → ⊥
@@ -44,7 +44,7 @@ drawn-end n s = go (eqb (length (s .kinds)) 0) refl
     absent some m (tooMany i x l is here full) = omega arith
     absent some m (noWorker is none) = some none
 
-    go : (t : Bool) → eqb (length (s .kinds)) 0 ≡ t → Drawn n s [] (cond t (badLine n) (whole s))
+    go : (t : Bool) → eqb (length (s .kinds)) 0 ≡ t → Drawn n s [] (cond t (badLine n) (complete s))
     go true is = (noWorker (sym (add-zero n)) (eqb-true (length (s .kinds)) 0 is), not-before n s [])
     go false is = (absent (eqb-false (length (s .kinds)) 0 is), refl)
 
@@ -73,7 +73,7 @@ module _ (n : ℕ) (s : Shape) (l : List ℕ) (ls : List (List ℕ)) (x : Line) 
 
   drawn-later : roomFor s x ≡ true → (d : Drafted) → Drawn (n + 1) next ls d → Drawn n s (l ∷ ls) d
   drawn-later room (badLine k) h = least-like (Unread (n + 1) next ls) (Unread n s (l ∷ ls)) (Some k) later (sooner room) h
-  drawn-later room (whole t) (none, is) = (least-like (Unread (n + 1) next ls) (Unread n s (l ∷ ls)) None later (sooner room) none, said-next ls ∙ is)
+  drawn-later room (complete t) (none, is) = (least-like (Unread (n + 1) next ls) (Unread n s (l ∷ ls)) None later (sooner room) none, said-next ls ∙ is)
 
 drawn-line : (n : ℕ) (s : Shape) (l : List ℕ) (ls : List (List ℕ)) (o : Option Line) → lineOf (wordsOf l) ≡ o →
     ((x : Line) → Drawn (n + 1) (addedTo s n x) ls (draftFrom (n + 1) (addedTo s n x) ls)) → Drawn n s (l ∷ ls) (stepped n s o (λ t. draftFrom (n + 1) t ls))
@@ -135,7 +135,7 @@ judged-fault text none (Some k) h = (two refl (h .0), first-two text k none h)
 
 judged-draft : (text : List ℕ) (d : Drafted) → Drawn 1 bare (linesOf text) d → Judged text (judgedDraft d)
 judged-draft text (badLine k) h = (one refl (h .0), first-one text k h)
-judged-draft text (whole s) (none, is) = subst (λ t. Judged text (judged t (faultOf t))) is (judged-fault text none (faultOf (said text)) (faulty-least (said text)))
+judged-draft text (complete s) (none, is) = subst (λ t. Judged text (judged t (faultOf t))) is (judged-fault text none (faultOf (said text)) (faulty-least (said text)))
 
 is-judged : (text : List ℕ) → Judged text (verdict text)
 is-judged text = judged-draft text (drafted text) (drawn 1 bare (linesOf text))

@@ -1,4 +1,4 @@
--- Which refusal holds of which line of a text, in the words of the rules.
+-- Which refusal holds of which line of a text: a relation over its lines, by the tests of one line, one worker and one edge.
 use mathlib.Core.Path.{_≡_}
 use mathlib.Core.Logic.{_⊎_}
 use mathlib.Core.Bool.{false}

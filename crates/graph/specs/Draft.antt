@@ -48,11 +48,11 @@ addedTo s n (line.Edge x) = record { kinds = s .kinds; edges = s .edges ++ x ∷
 
 -- a draft, or the first line that is none of a graph: not of the form, one worker or edge too many, or past the last where no worker is
 pub data Drafted : Type 0 where
-  whole : Shape → Drafted
+  complete : Shape → Drafted
   badLine : ℕ → Drafted
 
 abbrev pub draftOf : Result Draft ℕ → Drafted
-draftOf (Ok d) = whole (shapeOf d)
+draftOf (Ok d) = complete (shapeOf d)
 draftOf (Err n) = badLine n
 
 -- what line n says, added to what the lines before it made; more goes on with the lines after it
@@ -62,7 +62,7 @@ stepped n s (Some said) more = cond (roomFor s said) (more (addedTo s n said)) (
 
 -- the lines from number n on
 abbrev pub draftFrom : ℕ → Shape → List (List ℕ) → Drafted
-draftFrom n s [] = cond (eqb (length (s .kinds)) 0) (badLine n) (whole s)
+draftFrom n s [] = cond (eqb (length (s .kinds)) 0) (badLine n) (complete s)
 draftFrom n s (l ∷ ls) = stepped n s (lineOf (wordsOf l)) (λ t. draftFrom (n + 1) t ls)
 
 abbrev pub drafted : List ℕ → Drafted

@@ -12,7 +12,7 @@ use Rattle.text.specs.Words.{wordsOf, linesOf}
 use Rattle.model.specs.Graph.{Topology, Proper}
 use Rattle.graph.specs.declared.checked.Graph.{Graph}
 use Rattle.graph.specs.declared.reading.Refused.{Refused}
-use Rattle.graph.specs.Draft.{Shape, Drafted, whole, badLine, topology, drafted}
+use Rattle.graph.specs.Draft.{Shape, Drafted, complete, badLine, topology, drafted}
 use Rattle.graph.specs.Faults.{faultOf}
 
 abbrev pub topologyOf : Graph → Topology
@@ -32,7 +32,7 @@ judged s None = graph (topology s) (s .workerLines)
 judged s (Some line) = refused 2 line
 
 abbrev pub judgedDraft : Drafted → Verdict
-judgedDraft (whole s) = judged s (faultOf s)
+judgedDraft (complete s) = judged s (faultOf s)
 judgedDraft (badLine line) = refused 1 line
 
 -- 1 before 2, and of each the first line

@@ -2,7 +2,7 @@
 use mathlib.Core.Path.{_≡_}
 use mathlib.Core.List.{List, [], _∷_, _++_}
 use mathlib.Core.Bool.{Bool, true, _&&_}
-use Prim.Native.Nat.{ℕ, zero, suc, _+_, _<_}
+use Prim.Native.Nat.{ℕ, zero, suc, _+_, _-_, _<_}
 use lib.Chars.{codes}
 use lib.Dec.{leb}
 use lib.ListN.{length, getD}
@@ -10,7 +10,7 @@ use Rattle.std.specs.Written.{decimal}
 use Rattle.std.specs.declared.option.Option.the-variants.{Some}
 use Rattle.text.specs.Number.{most}
 use Rattle.text.specs.Name.{isName}
-use Rattle.text.specs.Words.{wordsOf}
+use Rattle.text.specs.Words.{wordsOf, linesOf}
 use Rattle.text.specs.Laws.{spaced, ended}
 use Rattle.model.specs.declared.Kind.{Kind}
 use Rattle.model.specs.declared.Kind.the-variants.{Source, Keep, Scale, Group, Spread, Window, Sink}
@@ -82,6 +82,13 @@ LineIs =
     (l : List ℕ) (said : Line) →
     (lineOf (wordsOf l) ≡ Some said → (name : List ℕ) × (lineWritable name said ≡ true) × (l ≡ lineText name said))
     × ((name : List ℕ) → lineWritable name said ≡ true → l ≡ lineText name said → lineOf (wordsOf l) ≡ Some said)
+
+-- In a text that is read, the line of each worker is what is written for its kind, and that of a source has its journal's name.
+abbrev pub WorkersHaveLines : Type 0
+WorkersHaveLines =
+    (text : List ℕ) (g : Topology) (lines : List ℕ) → verdict text ≡ graph g lines → (w : ℕ) → w < length (g .kinds) →
+    (name : List ℕ) × (writable name (kindAt g w) ≡ true) × (getD (linesOf text) (getD lines w 0 - 1) [] ≡ workerLine name (kindAt g w))
+    × (kindAt g w ≡ Source → nameIn text (getD lines w 0) ≡ name)
 
 -- so many numbers from n on
 abbrev pub countFrom : ℕ → ℕ → List ℕ

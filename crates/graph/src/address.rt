@@ -22,7 +22,7 @@ impl Graph {
         &self.ends[0..self.edges]
     }
 
-    fn reaches(&self, worker: u32, edge: u32) -> bool
+    fn is_in_edge(&self, worker: u32, edge: u32) -> bool
         ensures { λ r. ⌜ r ≡ addressed (topologyOf (now (self .entry))) (Call.Step worker edge) ⌝ }
     {
         if worker as usize >= self.kinds().len() {
@@ -35,7 +35,7 @@ impl Graph {
         ends[edge as usize].to == worker
     }
 
-    fn feeds(&self, worker: u32) -> bool
+    fn is_source(&self, worker: u32) -> bool
         ensures { λ r. ⌜ r ≡ addressed (topologyOf (now (self .entry))) (Call.Feed worker) ⌝ }
     {
         let kinds = self.kinds();
@@ -50,8 +50,8 @@ impl Graph {
         ensures { λ r. ⌜ r ≡ addressed (topologyOf (now (self .entry))) call ⌝ }
     {
         match call {
-            Call::Step { worker, edge } => self.reaches(worker, edge),
-            Call::Feed { worker } => self.feeds(worker),
+            Call::Step { worker, edge } => self.is_in_edge(worker, edge),
+            Call::Feed { worker } => self.is_source(worker),
             Call::Checkpoint { worker } => (worker as usize) < self.kinds().len(),
             Call::Commit { number: _ } => true,
             Call::Crash => true,

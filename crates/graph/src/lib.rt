@@ -17,4 +17,5 @@ pub use theorems::line_is;
 pub use theorems::lowest_wins;
 pub use theorems::read_is_proper;
 pub use theorems::read_is_said;
+pub use theorems::workers_have_lines;
 pub use theorems::write_read;

@@ -1,7 +1,7 @@
 // What is proved of the definitions, each named by a contract.
 ghost use Rattle.graph.specs.Applies.{LowestWins, ReadIsSaid};
 ghost use Rattle.graph.specs.Verdict.{ReadIsProper};
-ghost use Rattle.graph.specs.Write.{LineIs, WriteRead};
+ghost use Rattle.graph.specs.Write.{LineIs, WorkersHaveLines, WriteRead};
 
 pub fn read_is_proper() -> u8
     ensures { λ _. ⌜ ReadIsProper ⌝ }
@@ -11,6 +11,12 @@ pub fn read_is_proper() -> u8
 
 pub fn line_is() -> u8
     ensures { λ _. ⌜ LineIs ⌝ }
+{
+    0
+}
+
+pub fn workers_have_lines() -> u8
+    ensures { λ _. ⌜ WorkersHaveLines ⌝ }
 {
     0
 }
