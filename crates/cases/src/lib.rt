@@ -1,4 +1,6 @@
 // Examples worked out by hand. They stand in a crate of their own, for a crate with tests is proved twice.
+#![tactic(auto)]
+
 #[cfg(test)]
 mod edges;
 #[cfg(test)]

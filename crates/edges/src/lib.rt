@@ -1,4 +1,6 @@
 // The items on their way: a bounded queue for each edge of a graph, all in one lent slice of 32-bit words.
+#![tactic(auto)]
+
 mod calls;
 mod fault;
 mod head;

@@ -1,4 +1,6 @@
 // Graphs as text: reading one, and why a text is none.
+#![tactic(auto)]
+
 mod address;
 mod checked;
 mod draft;

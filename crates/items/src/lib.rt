@@ -1,5 +1,7 @@
 // What flows along the edges of a graph, how it stands in words and in the bytes of a journal,
 // and why a line or a call is refused.
+#![tactic(auto)]
+
 mod journal;
 mod theorems;
 mod words;

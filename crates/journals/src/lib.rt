@@ -1,4 +1,6 @@
 // Journals, read item by item from any source of bytes, in fixed memory.
+#![tactic(auto)]
+
 mod reader;
 mod reading;
 mod stop;

@@ -1,4 +1,6 @@
 // A note of the bytes that came from outside. It takes no memory, and no code reads it: contracts do.
+#![tactic(auto)]
+
 ghost use Rattle.std.specs.Prelude.{◌≡◌, ℕ, List, [], ◌++◌};
 ghost use Rattle.std.specs.Borrow.{ftrue};
 

@@ -1,4 +1,6 @@
 // What a graph is made of, and what can be asked of a running one.
+#![tactic(auto)]
+
 mod theorems;
 
 ghost use Rattle.std.specs.Prelude.{◌≡◌};

@@ -1,4 +1,6 @@
 // What the lower layers cost, for bench/run: a journal read to its end, and items put on edges and taken again.
+#![tactic(auto)]
+
 use anyhow::anyhow;
 use edges::{Edges, Fault};
 use items::{Item, Record};

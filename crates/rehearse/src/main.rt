@@ -1,4 +1,6 @@
 // Carries a script out on a graph, in memory, with one answer for each line.
+#![tactic(auto)]
+
 use anyhow::anyhow;
 use graph::{Graph, Refused};
 use items::Refusal;

@@ -1,4 +1,6 @@
 // The lines of a script, and what a graph that has not begun answers to them.
+#![tactic(auto)]
+
 mod command;
 mod fresh;
 mod show;

@@ -1,4 +1,6 @@
 // Where the bytes of a journal come from: memory, and files.
+#![tactic(auto)]
+
 mod ends;
 mod memory;
 mod source;

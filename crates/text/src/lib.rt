@@ -1,4 +1,6 @@
 // The words, numbers, names and lines of a text: any bytes at all.
+#![tactic(auto)]
+
 mod digits;
 mod name;
 mod theorems;

@@ -2,8 +2,8 @@ use Rattle.std.proofs.Common.{arith}
 use Rattle.text.proofs.Parts.{digits_step, digits-end}
 use Rattle.text.proofs.digits.value_of.Goals as goal
 
-pub returns-in-default : goal.returns-in-default
-returns-in-default c = digits_step _ _ c.loop-byte.byte-index _ (omega arith) c.loop-byte.invariant c.in-default.ensures
+pub returns-in_default : goal.returns-in_default
+returns-in_default c = digits_step _ _ c.loop-byte.byte-index _ (omega arith) c.loop-byte.invariant c.in_default.ensures
 
 pub loop-byte-preserved : goal.loop-byte-preserved
 loop-byte-preserved c = digits_step _ _ c.loop-byte.byte-index _ (omega arith) c.loop-byte.invariant c.in-Some.ensures
