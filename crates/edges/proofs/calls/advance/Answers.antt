@@ -21,11 +21,11 @@ returns-then-start-lt-CAPACITY c = record {
 
 pub returns : goal.returns
 returns c =
-    let places = c.copy-within.ensures.by_index in
+    let places = c.copy_within.ensures.by_index in
     record {
-      here = rest-moved c.args.words.now c.copy-within.new.self c.args.e c.args.head.start c.args.head.len c.requires.1
+      here = rest-moved c.args.words.now c.copy_within.new.self c.args.e c.args.head.start c.args.head.len c.requires.1
           (λ p l u. places.0 p 0 (omega arith) (omega arith) ∙ ap (λ (x : ℕ). get_or c.args.words.now x 0) (omega arith));
-      others = λ j apart. item-same c.copy-within.new.self c.args.words.now j j (λ p q l u s.
+      others = λ j apart. item-same c.copy_within.new.self c.args.words.now j j (λ p q l u s.
           let same : p ≡ q = omega arith in
           elim (cases_lt p (2064 * c.args.e)) [
             | inl before ↦ places.1 p 0 (omega arith)

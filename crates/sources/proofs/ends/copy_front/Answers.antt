@@ -6,5 +6,5 @@ pub returns : goal.returns
 returns c = record {
   fits = (omega (arith, c.min-n.ensures), omega (arith, c.min-n.ensures));
   most = λ z pos. omega (arith, c.min-n.ensures);
-  copied = copied-front c.min-n.result c.args.from.now c.copy-from-slice.new.self _ (omega (arith, c.min-n.ensures)) c.copy-from-slice.ensures.after;
+  copied = copied-front c.min-n.result c.args.from.now c.copy_from_slice.new.self _ (omega (arith, c.min-n.ensures)) c.copy_from_slice.ensures.after;
 }

@@ -6,15 +6,15 @@ use Rattle.edges.proofs.Slots.{items-none}
 use Rattle.edges.proofs.Numbered.{asked_is, asked-not, held_at, edge-set}
 use Rattle.edges.proofs.state.Edges.pop.Goals as goal
 
-pub returns-in-err-ask : goal.returns-in-err-ask
-returns-in-err-ask c =
-    let p = err_from_is_err_and c.from-residual.result c.from-residual.ensures.1 in
+pub returns-in_err-ask : goal.returns-in_err-ask
+returns-in_err-ask c =
+    let p = err_from_is_err_and c.from_residual.result c.from_residual.ensures.1 in
     rw (p.1, p.2)
-    (asked-not c.args.words.now c.args.self.now c.args.e _ _ c.in-err-ask.ensures, refl, refl)
+    (asked-not c.args.words.now c.args.self.now c.args.e _ _ c.in_err-ask.ensures, refl, refl)
 
 pub returns-then-head-eq0 : goal.returns-then-head-eq0
 returns-then-head-eq0 c =
-    let t = c.in-ok-ask.ensures in (
+    let t = c.in_ok-ask.ensures in (
       asked_is c.args.words.now c.args.self.now c.args.e _ t
           ∙ ap (taken (edges_of c.args.words.now c.args.self.now) c.args.e)
           (held_at c.args.words.now c.args.self.now c.args.e c.index-self-e.result t.1 (omega arith)
@@ -25,12 +25,12 @@ returns-then-head-eq0 c =
 
 pub returns : goal.returns
 returns c =
-    let t = c.in-ok-ask.ensures in
+    let t = c.in_ok-ask.ensures in
     asked_is c.args.words.now c.args.self.now c.args.e _ t
     ∙ ap (taken (edges_of c.args.words.now c.args.self.now) c.args.e)
     (held_at c.args.words.now c.args.self.now c.args.e c.index-self-e.result t.1 (omega arith) ∙ c.advance.ensures.here)
     ∙ ap Ok (rw (
-      c.item-at-item.ensures,
+      c.item_at-item.ensures,
       edge-set c.args.words.now c.advance.new.words c.args.self.now.heads c.args.self.now.count c.args.e c.advance.result _
           t.1 (omega arith) refl c.advance.ensures.others,
     ) refl)
