@@ -7,7 +7,7 @@ use Rattle.scripts.proofs.show.edge_lines.Goals as goal
 pub loop-e-preserved : goal.loop-e-preserved
 loop-e-preserved c =
     piece-more (edges_text c.loop-e.e) (edges_text (c.loop-e.e + 1)) _ no_edge c.args.ends.now c.loop-e.e _ _ _
-    c.loop-e-test.true refl c.loop-e.invariant c.in-ok-push-edge.ensures
+    c.loop-e-test.true refl c.loop-e.invariant c.in_ok-push_edge.ensures
 
 pub returns : goal.returns
 returns c = pieces-all (edges_text c.loop-e.e) c.args.ends.now c.loop-e.e _ _ c.loop-e-test.false refl c.loop-e.invariant

@@ -7,7 +7,7 @@ pub returns : goal.returns
 returns c =
     subst (λ t. IfOk c.joined.result (λ s. string_bytes s ≡ t))
     (joined_same (topology_of c.args.graph.now) _ _ _ _ _ _ _ _ c.kinds-kinds.ensures c.ends-ends.ensures
-    c.as-str.ensures.value c.in-ok-workers.ensures
-    c.as-str-2.ensures.value c.in-ok-edges.ensures
-    c.as-str-3.ensures.value c.in-ok-lengths.ensures)
+    c.as_str.ensures.value c.in_ok-workers.ensures
+    c.as_str-2.ensures.value c.in_ok-edges.ensures
+    c.as_str-3.ensures.value c.in_ok-lengths.ensures)
     c.joined.ensures

@@ -4,5 +4,5 @@ use Rattle.scripts.proofs.show.reached_line.Goals as goal
 
 pub returns : goal.returns
 returns c =
-    subst (λ t. IfOk c.line-with.result (λ s. string_bytes s ≡ t))
-    (parts_same c.args.w _ _ _ _ _ _ _ c.kind-name.ensures c.as-str.ensures.value c.in-ok-words.ensures c.kind-tail.ensures) c.line-with.ensures
+    subst (λ t. IfOk c.line_with.result (λ s. string_bytes s ≡ t))
+    (parts_same c.args.w _ _ _ _ _ _ _ c.kind_name.ensures c.as_str.ensures.value c.in_ok-words.ensures c.kind_tail.ensures) c.line_with.ensures

@@ -5,8 +5,8 @@ use Rattle.scripts.proofs.show.watermarks.Goals as goal
 
 pub loop-edge-preserved : goal.loop-edge-preserved
 loop-edge-preserved c =
-    zeros-more c.args.w c.args.ends.now c.loop-edge.edge_index _ _ _ _ _ c.loop-edge-test.true c.loop-edge.invariant
-    c.in-ok-first.ensures.text c.in-ok-first.ensures.next
+    zeros-more c.args.w c.args.ends.now c.loop-edge.edge-index _ _ _ _ _ c.loop-edge-test.true c.loop-edge.invariant
+    c.in_ok-first.ensures.text c.in_ok-first.ensures.next
 
 pub returns : goal.returns
-returns c = pieces-all (zeros c.loop-edge.first c.args.w) c.args.ends.now c.loop-edge.edge_index _ _ c.loop-edge-test.false refl c.loop-edge.invariant
+returns c = pieces-all (zeros c.loop-edge.first c.args.w) c.args.ends.now c.loop-edge.edge-index _ _ c.loop-edge-test.false refl c.loop-edge.invariant

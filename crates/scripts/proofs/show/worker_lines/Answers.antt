@@ -7,7 +7,7 @@ use Rattle.scripts.proofs.show.worker_lines.Goals as goal
 pub loop-w-preserved : goal.loop-w-preserved
 loop-w-preserved c =
     piece-more (workers_text c.args.ends.now c.loop-w.w) (workers_text c.args.ends.now (c.loop-w.w + 1)) _ Source c.args.kinds.now c.loop-w.w _ _ _
-    c.loop-w-test.true refl c.loop-w.invariant c.in-ok-push-worker.ensures
+    c.loop-w-test.true refl c.loop-w.invariant c.in_ok-push_worker.ensures
 
 pub returns : goal.returns
 returns c = pieces-all (workers_text c.args.ends.now c.loop-w.w) c.args.kinds.now c.loop-w.w _ _ c.loop-w-test.false refl c.loop-w.invariant

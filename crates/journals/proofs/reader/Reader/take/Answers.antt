@@ -2,11 +2,12 @@ use Rattle.std.proofs.Common.{◌≡◌, ℕ, sym, refl, ◌∙◌, arith}
 use Rattle.journals.proofs.Standing.{holds-told, holds-taken}
 use Rattle.journals.proofs.reader.Reader.take.Goals as goal
 
-pub invariant-of-self : goal.invariant-of-self
-invariant-of-self g c =
+pub invariant_of-self : goal.invariant_of-self
+invariant_of-self g c =
     let s = c.args.self.now in
-    holds-taken s.number s.journal.bytes s.buffer.items s.start s.end c.in-Item.item c.in-Item.taken
-    (s.roomy, (s.inside, (s.reached, (s.follows, tt)))) (sym c.first.ensures ∙ c.in-Item.is)
+    let h = holds-taken s.number s.journal.bytes s.buffer.items s.start s.end c.in-Item.item c.in-Item.taken
+    (s.roomy, (s.inside, (s.reached, (s.follows, tt)))) (sym c.first.ensures ∙ c.in-Item.is) in
+    record { roomy = h.0; inside = h.1.0; reached = h.1.1.0; follows = h.1.1.1.0 }
 
 pub returns-else-self : goal.returns-else-self
 returns-else-self g c =
