@@ -113,7 +113,7 @@ fn run(rt: &HostRuntime) -> anyhow::Result<()> {
     let _name = args.next();
     let usage = "usage: pace stream JOURNAL | pace skip JOURNAL NUMBER | pace queue NUMBER";
     let (Some(what), Some(first)) = (args.next(), args.next()) else {
-        return Err(usage.into());
+        return Err(anyhow!("{usage}"));
     };
     match (
         what.as_str(),
@@ -124,9 +124,9 @@ fn run(rt: &HostRuntime) -> anyhow::Result<()> {
         ("queue", Some(n), None) => queue(rt, n),
         ("skip", _, Some(to)) => match number(to.as_str().as_bytes()) {
             Some(to) => Ok(skip(rt, first.as_str(), to)?),
-            None => Err(usage.into()),
+            None => Err(anyhow!("{usage}")),
         },
-        _ => Err(usage.into()),
+        _ => Err(anyhow!("{usage}")),
     }
 }
 
