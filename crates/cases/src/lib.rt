@@ -2,13 +2,13 @@
 #![tactic(auto)]
 
 #[cfg(test)]
-mod edges;
-#[cfg(test)]
 mod graphs;
 #[cfg(test)]
-mod journals;
-#[cfg(test)]
 mod lines;
+#[cfg(test)]
+mod queues;
+#[cfg(test)]
+mod readers;
 #[cfg(test)]
 mod refusals;
 #[cfg(test)]

@@ -12,7 +12,6 @@ use Rattle.text.proofs.Joins.{words_are}
 use Rattle.text.proofs.Tables.{not_some, some_same, which-way, only-way, lookup-word, mapped-from, none_is, one-is, two_is}
 use Rattle.model.specs.declared.Kind.{Kind}
 use Rattle.model.specs.declared.Kind.TheVariants as kind
-use Rattle.model.specs.declared.Edge.{Edge}
 use Rattle.graph.specs.declared.line.Name.{Name}
 use Rattle.graph.specs.declared.line.Name.TheVariants as name
 use Rattle.graph.specs.declared.line.Line.{Line}

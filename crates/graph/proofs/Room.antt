@@ -1,5 +1,5 @@
 -- Lists in the first places of arrays, and the lines that fill them.
-use Rattle.std.proofs.Common.{◌≡◌, ℕ, ◌+◌, ◌-◌, ◌<◌, ◌≤◌, true, ltb, List, [], ◌∷◌, ◌++◌, length, take, set, ap, ◌∙◌, arith}
+use Rattle.std.proofs.Common.{◌≡◌, ℕ, ◌+◌, ◌<◌, ◌≤◌, true, ltb, List, [], ◌∷◌, ◌++◌, length, take, set, ap, ◌∙◌, arith}
 use borrow.Author.Tests.{lt-true}
 use Rattle.std.proofs.lemmas.List.{length-take-le, take_more_set}
 use Rattle.model.specs.declared.Kind.{Kind}

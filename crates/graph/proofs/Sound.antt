@@ -3,7 +3,6 @@ use Rattle.std.proofs.Common.{◌≡◌, ℕ, ◌+◌, ◌<◌, ◌≤◌, Bool,
 use borrow.Author.Tests.{eqb-false}
 use Rattle.std.proofs.lemmas.Bool.{and_from}
 use Rattle.text.specs.Words.{words_of, lines_of}
-use Rattle.model.specs.declared.Edge.{Edge}
 use Rattle.model.specs.Graph.{Topology, most_workers, most_edges, worker_proper, edge_proper, workers_proper, edges_proper, sized, proper, Proper}
 use Rattle.model.proofs.Proper.{proper-is}
 use Rattle.graph.specs.declared.line.Line.{Line}

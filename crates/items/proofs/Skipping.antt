@@ -4,7 +4,7 @@ use Rattle.std.proofs.lemmas.List.{drop-append-le}
 use Rattle.items.specs.declared.Item.{Item}
 use Rattle.items.specs.declared.journal.Reading.{Reading}
 use Rattle.items.specs.declared.journal.Reading.TheVariants.{Item as AnItem, NotYet, Unknown}
-use Rattle.items.specs.Journal.{first_of, behind, reading_at, rest_behind, rest_at}
+use Rattle.items.specs.Journal.{first_of, reading_at, rest_behind, rest_at}
 use Rattle.items.proofs.Growing.{first_fits, first_more}
 
 none-some : {A : Type 0} {G : Type 0} (x : A) → None ≡ Some x → G

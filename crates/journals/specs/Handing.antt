@@ -1,5 +1,5 @@
 -- What a reader holds of a journal, and where it stands in it.
-use Rattle.std.specs.Prelude.{◌≡◌, ℕ, ◌+◌, ◌≤◌, Bool, true, false, List, [], ◌++◌, length, take, Some, None, Ok, Err, Option, Result}
+use Rattle.std.specs.Prelude.{◌≡◌, ℕ, ◌+◌, ◌≤◌, Bool, true, false, List, [], ◌++◌, length, Some, None, Ok, Err, Option, Result}
 use Rattle.std.specs.List.{between}
 use Rattle.items.specs.declared.Item.{Item}
 use Rattle.items.specs.declared.journal.Reading.{Reading}

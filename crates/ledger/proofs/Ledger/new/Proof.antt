@@ -1,9 +1,8 @@
 -- `new` makes the empty note: the struct holds no value, and its ghost field is chosen here.
-use Rattle.std.proofs.Common.{List, [], ◌∷◌, ◌++◌, sym, refl, subst}
+use Rattle.std.proofs.Common.{List, [], ◌∷◌, refl}
 use seplogic.Ra.Ura.{Ura}
-use mir.Syntax.{Fn}
 use mir.Val.{Val, vstruct, vnil}
-use base.Logic.{SProp, ent, sep, via, fst∗, snd∗}
+use base.Logic.{SProp, ent}
 use prog.Memory.{Memory}
 use prog.Routine.{Routine}
 use prog.Wp.{Calls, Loops, WpFn, Tables}
@@ -11,21 +10,20 @@ use types.Logic.{Logic}
 use contract.Monad.{Fun}
 use contract.Running.{tables, tables_of}
 use sound.WpLaws.{WpFn-mono}
-use types.Kit.{‵, raw, ◌⊛◌, ◌$◌, ◌∵◌, !, qed, by, move, keep, split, join, fsplit, fjoin, suffices, done, feq_i, fpack}
+use types.Kit.{‵, raw, ◌⊛◌, ◌$◌, ◌∵◌, !, qed, move, keep, split, join, fjoin, suffices, done, feq_i, fpack}
 use types.Run.{returns, enter, no_more}
 use types.ByLocal.{alloc_all, pass_all, free_all, look_at, sets}
 use types.Part.{agg}
-use denote.RattleType.{RattleType, owns, Valss}
-use denote.Signature.{types_at, plain}
+use denote.RattleType.{owns, Valss}
 use denote.Steps.{nothing}
 use denote.Struct.Owning.{shape}
 use denote.Struct.Struct.{within}
 use denote.Triple.Clauses.{Clauses, closing}
-use denote.Triple.Entry.{on_entry, alive}
+use denote.Triple.Entry.{alive}
 use denote.Triple.Spec.{Meets, triple_of}
 use denote.Triple.Table.{entered}
 use denote.Triple.Walked.{says, Stays, walk_of, ends_at, walk_Meets}
-use Rattle.ledger.specs.contracts.Ledger.{the_type, the_row}
+use Rattle.ledger.specs.contracts.Ledger.{the_type}
 use Rattle.ledger.specs.contracts.Ledger.new.{ended, clauses}
 use Rattle.ledger.specs.contracts.Ledger.new.Key.{name as #self}
 use Rattle.ledger.proofs.Ledger.new.Statement as stated
