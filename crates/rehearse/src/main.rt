@@ -1,11 +1,11 @@
 // Carries a script out on a graph, in memory, with one answer for each line.
 #![tactic(auto)]
 
-use anyhow::anyhow;
 use graph::{Graph, Refused};
 use items::Refusal;
 use scripts::{Answer, answer_to, fresh_text};
 use std::alloc::AllocError;
+use std::process::ExitCode;
 use std::{env, fs, io};
 use text::next_line;
 
@@ -115,29 +115,29 @@ fn rehearse<'a>(
     }
 }
 
-// What was wrong has been said; an `Err` ends the process with status 1.
-fn ended() -> anyhow::Result<()> {
-    Err(anyhow!("ended"))
-}
-
-fn main(rt: HostRuntime) -> anyhow::Result<()> {
-    let mut args = match env::args(&rt) {
+// What was wrong has been said on standard error, or could not be.
+fn run(rt: &HostRuntime) -> io::Result<ExitCode> {
+    let mut args = match env::args(rt) {
         Ok(args) => args,
         Err(error) => {
             eprintln!(rt; "rehearse: arguments: {error}")?;
-            return ended();
+            return Ok(ExitCode::FAILURE);
         }
     };
     let _program = args.next();
     let (Some(graph), Some(script), None) = (args.next(), args.next(), args.next()) else {
         eprintln!(rt; "rehearse: usage: rehearse GRAPH SCRIPT")?;
-        return ended();
+        return Ok(ExitCode::FAILURE);
     };
-    match rehearse(&rt, graph.as_str(), script.as_str()) {
-        Ok(()) => Ok(()),
+    match rehearse(rt, graph.as_str(), script.as_str()) {
+        Ok(()) => Ok(ExitCode::SUCCESS),
         Err(failure) => {
-            failure.report(&rt)?;
-            ended()
+            failure.report(rt)?;
+            Ok(ExitCode::FAILURE)
         }
     }
+}
+
+fn main(rt: HostRuntime) -> ExitCode {
+    run(&rt).unwrap_or(ExitCode::FAILURE)
 }
