@@ -3,18 +3,19 @@
 
 usage: tools/snake_case.py      at the top of the repository, once
 
-Takes every name in lower camel case that a file of specs/ or a file of lemmas in proofs/ declares, also a field or a
-constructor, and rewrites it in every .rt and .antt file below crates/. Names of the code, of types, and names that the
-check makes stay. It stops, and writes nothing, where a new name is in use already.
+Takes every name in lower camel case, or with a dash, that a file of specs/ or a file of lemmas in proofs/ declares, also
+a field or a constructor, and rewrites it in every .rt and .antt file below crates/. Names of the code, of types, and names
+that the check makes stay. A lemma with a dash gets `_lem` behind its name where a function or a definition has that name.
+It stops, and writes nothing, where a new name is in use already.
 """
 
 import os
 import re
 import sys
 
-DECLARED = re.compile(r"^(?:(?:abbrev|unfoldable) )?(?:pub )?([a-z]\w*)(?: \(.*\)| \{.*\})? : ")
+DECLARED = re.compile(r"^(?:(?:abbrev|unfoldable) )?(?:pub )?([a-z][\w-]*)(?: \(.*\)| \{.*\})? : ")
 PART = re.compile(r"^  (?:pub )?([a-z]\w*) : ")
-CAMEL = re.compile(r"(?<=[a-z0-9])(?=[A-Z])")
+JOINT = re.compile(r"(?<=[a-z0-9])(?=[A-Z])|-")
 
 
 def files():
@@ -39,17 +40,21 @@ def main():
         if is_declaring(path):
             for line in text.splitlines():
                 found = DECLARED.match(line) or PART.match(line)
-                if found and CAMEL.search(found.group(1)):
+                if found and JOINT.search(found.group(1)):
                     own.add(found.group(1))
-    new = {name: CAMEL.sub("_", name).lower() for name in own}
-    together = {a for a in new for b in new if a != b and new[a] == new[b]}
-    if together:
-        print("fall together: " + " ".join(sorted(together)), file=sys.stderr)
-        return 2
     used = {}
     for path, text in texts.items():
         for word in re.findall(r"[\w'-]+", text):
             used.setdefault(word, path)
+    new = {name: JOINT.sub("_", name).lower() for name in own}
+    plain = {it for name, it in new.items() if "-" not in name}
+    for name, it in new.items():
+        if "-" in name and (it in used or it in plain):
+            new[name] = it + "_lem"
+    together = {a for a in new for b in new if a != b and new[a] == new[b]}
+    if together:
+        print("fall together: " + " ".join(sorted(together)), file=sys.stderr)
+        return 2
     taken = {name for name in new if new[name] in used and new[name] not in OF_THE_CODE}
     if taken:
         for name in sorted(taken):

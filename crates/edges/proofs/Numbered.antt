@@ -10,100 +10,100 @@ use Rattle.edges.specs.declared.head.Head.{Head}
 use Rattle.edges.specs.declared.state.Edges.{Edges}
 use Rattle.edges.specs.Queues.{on, there, asked}
 use Rattle.edges.specs.Held.{item_at, queue_of, queues_from, edges_of, nobody}
-use Rattle.edges.proofs.Slots.{items-same, items-none, items-length}
+use Rattle.edges.proofs.Slots.{items_same, items_none, items_length}
 
-queues-length : (ws : List ℕ) (hs : List Head) (e n : ℕ) → length (queues_from ws hs e n) ≡ n
+queues_length : (ws : List ℕ) (hs : List Head) (e n : ℕ) → length (queues_from ws hs e n) ≡ n
 unfolding queues_from
-queues-length ws hs e zero = refl
-queues-length ws hs e (suc n) = ap suc (queues-length ws hs (suc e) n)
+queues_length ws hs e zero = refl
+queues_length ws hs e (suc n) = ap suc (queues_length ws hs (suc e) n)
 
-queues-from : (ws : List ℕ) (hs : List Head) (a n e : ℕ) → e < n → get_or (queues_from ws hs a n) e [] ≡ queue_of ws (a + e) (get_or hs (a + e) nobody)
+queues_from_lem : (ws : List ℕ) (hs : List Head) (a n e : ℕ) → e < n → get_or (queues_from ws hs a n) e [] ≡ queue_of ws (a + e) (get_or hs (a + e) nobody)
 unfolding queues_from
-queues-from ws hs a zero e h = absurd (omega arith)
-queues-from ws hs a (suc n) zero h = rw add-zero refl
-queues-from ws hs a (suc n) (suc e) h =
-    let s : a + suc e ≡ suc a + e = omega arith in rw s (queues-from ws hs (suc a) n e (omega arith))
+queues_from_lem ws hs a zero e h = absurd (omega arith)
+queues_from_lem ws hs a (suc n) zero h = rw add-zero refl
+queues_from_lem ws hs a (suc n) (suc e) h =
+    let s : a + suc e ≡ suc a + e = omega arith in rw s (queues_from_lem ws hs (suc a) n e (omega arith))
 
 -- what stands at the place of edge e is what it holds
-pub queues-at : (ws : List ℕ) (hs : List Head) (n e : ℕ) → e < n → get_or (queues_from ws hs 0 n) e [] ≡ queue_of ws e (get_or hs e nobody)
-queues-at ws hs n e h = rw zero-add at (queues-from ws hs 0 n e h)
+pub queues_at : (ws : List ℕ) (hs : List Head) (n e : ℕ) → e < n → get_or (queues_from ws hs 0 n) e [] ≡ queue_of ws e (get_or hs e nobody)
+queues_at ws hs n e h = rw zero-add at (queues_from_lem ws hs 0 n e h)
 
 -- where all edges but e hold what they held
-pub queues-set : (ws vs : List ℕ) (hs gs : List Head) (n e : ℕ) (is : List Item) → e < n → queue_of vs e (get_or gs e nobody) ≡ is →
+pub queues_set : (ws vs : List ℕ) (hs gs : List Head) (n e : ℕ) (is : List Item) → e < n → queue_of vs e (get_or gs e nobody) ≡ is →
     ((d : ℕ) → d < n → (d ≡ e → ⊥) → queue_of vs d (get_or gs d nobody) ≡ queue_of ws d (get_or hs d nobody)) →
     queues_from vs gs 0 n ≡ set (queues_from ws hs 0 n) e is
-queues-set ws vs hs gs n e is lt here others =
-    let l : length (queues_from vs gs 0 n) ≡ n = queues-length vs gs 0 n in
-    let k : length (queues_from ws hs 0 n) ≡ n = queues-length ws hs 0 n in
+queues_set ws vs hs gs n e is lt here others =
+    let l : length (queues_from vs gs 0 n) ≡ n = queues_length vs gs 0 n in
+    let k : length (queues_from ws hs 0 n) ≡ n = queues_length ws hs 0 n in
     ext_get_or [] _ _ (simp (length-set) (l ∙ sym k))
     (λ d h.
-    queues-at vs gs n d (omega arith)
+    queues_at vs gs n d (omega arith)
     ∙ elim (cases_eq d e) [
       | inl same ↦ rw same (here ∙ sym (get_or-set_same (queues_from ws hs 0 n) e is [] (omega arith)))
       | inr ne ↦ others d (omega arith) ne
-          ∙ sym (get_or-set_other (queues_from ws hs 0 n) e d is [] ne ∙ queues-at ws hs n d (omega arith))
+          ∙ sym (get_or-set_other (queues_from ws hs 0 n) e d is [] ne ∙ queues_at ws hs n d (omega arith))
     ])
 
 -- an edge whose slots were not touched; slot j is one of edge j / 516
 pub apart : (ws vs : List ℕ) (e d : ℕ) (h : Head) → (d ≡ e → ⊥) → ((j : ℕ) → (j / 516 ≡ e → ⊥) → item_at vs j ≡ item_at ws j) → queue_of vs d h ≡ queue_of ws d h
 apart ws vs e d h ne H =
-    items-same vs ws (516 * d + h.start) (516 * d + h.start) h.len
+    items_same vs ws (516 * d + h.start) (516 * d + h.start) h.len
     (λ a b l u s. let eq : a ≡ b = omega arith in H a (λ at. omega arith) ∙ ap (item_at ws) eq)
 
 -- where only the slots and the head of edge e were written
-pub edge-set : (ws vs : List ℕ) (hs : List Head) (n e : ℕ) (h : Head) (is : List Item) → e < n → e < length hs → queue_of vs e h ≡ is →
+pub edge_set : (ws vs : List ℕ) (hs : List Head) (n e : ℕ) (h : Head) (is : List Item) → e < n → e < length hs → queue_of vs e h ≡ is →
     ((j : ℕ) → (j / 516 ≡ e → ⊥) → item_at vs j ≡ item_at ws j) → queues_from vs (set hs e h) 0 n ≡ set (queues_from ws hs 0 n) e is
-edge-set ws vs hs n e h is lt le here others =
-    queues-set ws vs hs (set hs e h) n e is lt (rw (get_or-set_same hs e h nobody le) here)
+edge_set ws vs hs n e h is lt le here others =
+    queues_set ws vs hs (set hs e h) n e is lt (rw (get_or-set_same hs e h nobody le) here)
     (λ d l ne. rw (get_or-set_other hs e d h nobody ne) (apart ws vs e d (get_or hs d nobody) ne others))
 
-pub count-is : (ws : List ℕ) (q : Edges) → length (edges_of ws q) ≡ q.count
-count-is ws q = queues-length ws q.heads 0 q.count
+pub count_is : (ws : List ℕ) (q : Edges) → length (edges_of ws q) ≡ q.count
+count_is ws q = queues_length ws q.heads 0 q.count
 
 -- a call on an edge that is there, and on one that isn't
-pub there-is : {A : Type 0} (ws : List ℕ) (q : Edges) (e : ℕ) (x : Result A Fault) → e < q.count → there (edges_of ws q) e x ≡ x
-there-is ws q e x h =
-    let l : length (edges_of ws q) ≡ q.count = count-is ws q in
+pub there_is : {A : Type 0} (ws : List ℕ) (q : Edges) (e : ℕ) (x : Result A Fault) → e < q.count → there (edges_of ws q) e x ≡ x
+there_is ws q e x h =
+    let l : length (edges_of ws q) ≡ q.count = count_is ws q in
     rw (lt-ltb e (length (edges_of ws q)) (omega arith)) refl
 
-pub there-not : {A : Type 0} (ws : List ℕ) (q : Edges) (e : ℕ) (x : Result A Fault) → q.count ≤ e → there (edges_of ws q) e x ≡ Err (Refused NotThere)
-there-not ws q e x h =
-    let l : length (edges_of ws q) ≡ q.count = count-is ws q in
+pub there_not : {A : Type 0} (ws : List ℕ) (q : Edges) (e : ℕ) (x : Result A Fault) → q.count ≤ e → there (edges_of ws q) e x ≡ Err (Refused NotThere)
+there_not ws q e x h =
+    let l : length (edges_of ws q) ≡ q.count = count_is ws q in
     rw (le-ltb e (length (edges_of ws q)) (omega arith)) refl
 
 -- the same where words are lent
 pub asked_is : {A : Type 0} (ws : List ℕ) (q : Edges) (e : ℕ) (x : Result A Fault) → (2064 * q.count ≤ length ws) × (e < q.count) →
     asked (length ws) (edges_of ws q) e x ≡ x
 asked_is ws q e x h =
-    let l : length (edges_of ws q) ≡ q.count = count-is ws q in
-    rw (le-ltb (length ws) (2064 * length (edges_of ws q)) (omega (arith, h.0))) (there-is ws q e x h.1)
+    let l : length (edges_of ws q) ≡ q.count = count_is ws q in
+    rw (le-ltb (length ws) (2064 * length (edges_of ws q)) (omega (arith, h.0))) (there_is ws q e x h.1)
 
-pub asked-not : {A : Type 0} (ws : List ℕ) (q : Edges) (e : ℕ) (x : Result A Fault) (f : Fault) →
+pub asked_not : {A : Type 0} (ws : List ℕ) (q : Edges) (e : ℕ) (x : Result A Fault) (f : Fault) →
     ((length ws < 2064 * q.count) × (f ≡ ShortMemory)) ⊎ ((2064 * q.count ≤ length ws) × (q.count ≤ e) × (f ≡ Refused NotThere)) →
     asked (length ws) (edges_of ws q) e x ≡ Err f
-asked-not ws q e x f (inl h) =
-    let l : length (edges_of ws q) ≡ q.count = count-is ws q in
+asked_not ws q e x f (inl h) =
+    let l : length (edges_of ws q) ≡ q.count = count_is ws q in
     rw (lt-ltb (length ws) (2064 * length (edges_of ws q)) (omega (arith, h.0)), h.1) refl
-asked-not ws q e x f (inr h) =
-    let l : length (edges_of ws q) ≡ q.count = count-is ws q in
-    rw (le-ltb (length ws) (2064 * length (edges_of ws q)) (omega (arith, h.0)), h.2) (there-not ws q e x h.1)
+asked_not ws q e x f (inr h) =
+    let l : length (edges_of ws q) ≡ q.count = count_is ws q in
+    rw (le-ltb (length ws) (2064 * length (edges_of ws q)) (omega (arith, h.0)), h.2) (there_not ws q e x h.1)
 
 -- edges whose heads count nothing
-pub queues-none : (ws : List ℕ) (h : Head) (m n : ℕ) → h.len ≡ 0 → n ≤ m → queues_from ws (replicate m h) 0 n ≡ replicate n []
-queues-none ws h m n none le =
-    let l : length (queues_from ws (replicate m h) 0 n) ≡ n = queues-length ws (replicate m h) 0 n in
+pub queues_none : (ws : List ℕ) (h : Head) (m n : ℕ) → h.len ≡ 0 → n ≤ m → queues_from ws (replicate m h) 0 n ≡ replicate n []
+queues_none ws h m n none le =
+    let l : length (queues_from ws (replicate m h) 0 n) ≡ n = queues_length ws (replicate m h) 0 n in
     ext_get_or [] _ _ (l ∙ sym (length-replicate n []))
     (λ d lt.
-    queues-at ws (replicate m h) n d (omega arith)
-    ∙ rw (get_or-replicate m d h nobody (omega arith)) (items-none ws (516 * d + h.start) h.len none)
+    queues_at ws (replicate m h) n d (omega arith)
+    ∙ rw (get_or-replicate m d h nobody (omega arith)) (items_none ws (516 * d + h.start) h.len none)
     ∙ sym (get_or-replicate n d [] [] (omega arith)))
 
 -- what edge e holds, by the head that was read at some default
 pub held_at : (ws : List ℕ) (q : Edges) (e : ℕ) (d : Head) → e < q.count → e < length q.heads → on (edges_of ws q) e ≡ queue_of ws e (get_or q.heads e d)
-held_at ws q e d lt le = queues-at ws q.heads q.count e lt ∙ ap (queue_of ws e) (get_or_default q.heads e nobody d le)
+held_at ws q e d lt le = queues_at ws q.heads q.count e lt ∙ ap (queue_of ws e) (get_or_default q.heads e nobody d le)
 
 pub length_at : (ws : List ℕ) (q : Edges) (e : ℕ) (d : Head) → e < q.count → e < length q.heads → length (on (edges_of ws q) e) ≡ (get_or q.heads e d).len
-length_at ws q e d lt le = ap length (held_at ws q e d lt le) ∙ items-length ws (516 * e + (get_or q.heads e d).start) (get_or q.heads e d).len
+length_at ws q e d lt le = ap length (held_at ws q e d lt le) ∙ items_length ws (516 * e + (get_or q.heads e d).start) (get_or q.heads e d).len
 
 -- the slot behind the items of edge e, by the head that was read
 abbrev pub behind : Edges → ℕ → Head → ℕ

@@ -6,9 +6,9 @@ use Rattle.items.specs.Words.{words_of, decoded}
 use Rattle.edges.specs.Held.{or_stop, item_at, items_from}
 
 -- an item is its four words
-pub item-same : (ws vs : List ℕ) (k m : ℕ) →
+pub item_same : (ws vs : List ℕ) (k m : ℕ) →
     ((p q : ℕ) → 4 * k ≤ p → p < 4 * k + 4 → p + 4 * m ≡ q + 4 * k → get_or ws p 0 ≡ get_or vs q 0) → item_at ws k ≡ item_at vs m
-item-same ws vs k m H =
+item_same ws vs k m H =
     let a : get_or ws (4 * k) 0 ≡ get_or vs (4 * m) 0 = H _ _ (omega arith) (omega arith) (omega arith) in
     let b : get_or ws (4 * k + 1) 0 ≡ get_or vs (4 * m + 1) 0 = H _ _ (omega arith) (omega arith) (omega arith) in
     let d : get_or ws (4 * k + 2) 0 ≡ get_or vs (4 * m + 2) 0 = H _ _ (omega arith) (omega arith) (omega arith) in
@@ -19,8 +19,8 @@ abbrev put4 : List ℕ → ℕ → ℕ → ℕ → ℕ → ℕ → List ℕ
 put4 ws p t a b d = set (set (set (set ws p t) (p + 1) a) (p + 2) b) (p + 3) d
 
 -- four words were written: the slot that they are in, and the others
-pub put4-here : (ws : List ℕ) (k t a b d : ℕ) → 4 * k + 3 < length ws → item_at (put4 ws (4 * k) t a b d) k ≡ or_stop (decoded t a b d)
-put4-here ws k t a b d h =
+pub put4_here : (ws : List ℕ) (k t a b d : ℕ) → 4 * k + 3 < length ws → item_at (put4 ws (4 * k) t a b d) k ≡ or_stop (decoded t a b d)
+put4_here ws k t a b d h =
     let s0 : List ℕ = set ws (4 * k) t in
     let s1 : List ℕ = set s0 (4 * k + 1) a in
     let s2 : List ℕ = set s1 (4 * k + 2) b in
@@ -38,69 +38,69 @@ put4-here ws k t a b d h =
     let j : get_or (set s2 (4 * k + 3) d) (4 * k + 3) 0 ≡ d = get_or-set_same s2 (4 * k + 3) d 0 l3 in
     rw (f, g, i, j) refl
 
-pub put4-other : (ws : List ℕ) (k j t a b d : ℕ) → (j ≡ k → ⊥) → item_at (put4 ws (4 * k) t a b d) j ≡ item_at ws j
-put4-other ws k j t a b d ne =
+pub put4_other : (ws : List ℕ) (k j t a b d : ℕ) → (j ≡ k → ⊥) → item_at (put4 ws (4 * k) t a b d) j ≡ item_at ws j
+put4_other ws k j t a b d ne =
     let s0 : List ℕ = set ws (4 * k) t in
     let s1 : List ℕ = set s0 (4 * k + 1) a in
     let s2 : List ℕ = set s1 (4 * k + 2) b in
-    item-same (set s2 (4 * k + 3) d) ws j j (λ p q l u s.
+    item_same (set s2 (4 * k + 3) d) ws j j (λ p q l u s.
     let same : p ≡ q = omega arith in
     get_or-set_other s2 (4 * k + 3) p d 0 (omega arith) ∙ get_or-set_other s1 (4 * k + 2) p b 0 (omega arith)
     ∙ get_or-set_other s0 (4 * k + 1) p a 0 (omega arith) ∙ get_or-set_other ws (4 * k) p t 0 (omega arith) ∙ ap (λ (x : ℕ). get_or ws x 0) same)
 
 -- the words of an item stand for it
-pub words-tell : (i : Item) → or_stop (decoded (get_or (words_of i) 0 0) (get_or (words_of i) 1 0) (get_or (words_of i) 2 0) (get_or (words_of i) 3 0)) ≡ i
-words-tell (Record r) = refl
-words-tell (Watermark t) = refl
-words-tell (Barrier n) = refl
+pub words_tell_lem : (i : Item) → or_stop (decoded (get_or (words_of i) 0 0) (get_or (words_of i) 1 0) (get_or (words_of i) 2 0) (get_or (words_of i) 3 0)) ≡ i
+words_tell_lem (Record r) = refl
+words_tell_lem (Watermark t) = refl
+words_tell_lem (Barrier n) = refl
 
 -- two ranges hold the same items where each slot of the one is as that of the other
-pub items-same : (ws vs : List ℕ) (k m n : ℕ) →
+pub items_same : (ws vs : List ℕ) (k m n : ℕ) →
     ((a b : ℕ) → k ≤ a → a < k + n → a + m ≡ b + k → item_at ws a ≡ item_at vs b) → items_from ws k n ≡ items_from vs m n
 unfolding items_from
-items-same ws vs k m zero H = refl
-items-same ws vs k m (suc n) H =
+items_same ws vs k m zero H = refl
+items_same ws vs k m (suc n) H =
     let e : item_at ws k ≡ item_at vs m = H k m (omega arith) (omega arith) (omega arith) in
     let t : items_from ws (suc k) n ≡ items_from vs (suc m) n =
-    items-same ws vs (suc k) (suc m) n (λ a b l u s. H a b (omega arith) (omega arith) (omega arith)) in
+    items_same ws vs (suc k) (suc m) n (λ a b l u s. H a b (omega arith) (omega arith) (omega arith)) in
     cc
 
-pub items-none : (ws : List ℕ) (k n : ℕ) → n ≡ 0 → items_from ws k n ≡ []
+pub items_none : (ws : List ℕ) (k n : ℕ) → n ≡ 0 → items_from ws k n ≡ []
 unfolding items_from
-items-none ws k n e = rw e refl
+items_none ws k n e = rw e refl
 
 -- the first slot and the others
-pub items-cons : (ws : List ℕ) (k n : ℕ) → 0 < n → items_from ws k n ≡ item_at ws k ∷ items_from ws (k + 1) (n - 1)
+pub items_cons : (ws : List ℕ) (k n : ℕ) → 0 < n → items_from ws k n ≡ item_at ws k ∷ items_from ws (k + 1) (n - 1)
 unfolding items_from
-items-cons ws k zero h = absurd (omega arith)
-items-cons ws k (suc n) h =
+items_cons ws k zero h = absurd (omega arith)
+items_cons ws k (suc n) h =
     let e : suc n - 1 ≡ n = omega arith in
     let f : k + 1 ≡ suc k = omega arith in
     rw (e, f) refl
 
 -- the first n slots and m behind them
-pub items-append : (ws : List ℕ) (k n m : ℕ) → items_from ws k (n + m) ≡ items_from ws k n ++ items_from ws (k + n) m
+pub items_append : (ws : List ℕ) (k n m : ℕ) → items_from ws k (n + m) ≡ items_from ws k n ++ items_from ws (k + n) m
 unfolding items_from
-items-append ws k zero m = rw (zero-add, add-zero) refl
-items-append ws k (suc n) m =
+items_append ws k zero m = rw (zero-add, add-zero) refl
+items_append ws k (suc n) m =
     let f : suc n + m ≡ suc (n + m) = omega arith in
     let g : k + suc n ≡ suc k + n = omega arith in
-    rw (f, g) (ap (λ is. item_at ws k ∷ is) (items-append ws (suc k) n m))
+    rw (f, g) (ap (λ is. item_at ws k ∷ is) (items_append ws (suc k) n m))
 
-pub items-length : (ws : List ℕ) (k n : ℕ) → length (items_from ws k n) ≡ n
+pub items_length : (ws : List ℕ) (k n : ℕ) → length (items_from ws k n) ≡ n
 unfolding items_from
-items-length ws k zero = refl
-items-length ws k (suc n) = ap suc (items-length ws (suc k) n)
+items_length ws k zero = refl
+items_length ws k (suc n) = ap suc (items_length ws (suc k) n)
 
 -- the items of an edge without the first, where they stand one slot further on, and where they were moved down to slot 0
-pub rest-on : (ws : List ℕ) (e k n : ℕ) → 0 < n → items_from ws (516 * e + k) n ≡ item_at ws (516 * e + k) ∷ items_from ws (516 * e + (k + 1)) (n - 1)
-rest-on ws e k n pos = let same : 516 * e + (k + 1) ≡ 516 * e + k + 1 = omega arith in rw same (items-cons ws (516 * e + k) n pos)
+pub rest_on : (ws : List ℕ) (e k n : ℕ) → 0 < n → items_from ws (516 * e + k) n ≡ item_at ws (516 * e + k) ∷ items_from ws (516 * e + (k + 1)) (n - 1)
+rest_on ws e k n pos = let same : 516 * e + (k + 1) ≡ 516 * e + k + 1 = omega arith in rw same (items_cons ws (516 * e + k) n pos)
 
-pub rest-moved : (ws vs : List ℕ) (e k n : ℕ) → 0 < n →
+pub rest_moved : (ws vs : List ℕ) (e k n : ℕ) → 0 < n →
     ((p : ℕ) → 2064 * e ≤ p → p < 2064 * e + 4 * (n - 1) → get_or vs p 0 ≡ get_or ws (4 * (k + 1) + p) 0) →
     items_from ws (516 * e + k) n ≡ item_at ws (516 * e + k) ∷ items_from vs (516 * e + 0) (n - 1)
-rest-moved ws vs e k n pos H =
-    rest-on ws e k n pos
-    ∙ ap (λ is. item_at ws (516 * e + k) ∷ is) (items-same ws vs (516 * e + (k + 1)) (516 * e + 0) (n - 1)
-    (λ a b l u s. item-same ws vs a b (λ p q pl pu ps.
+rest_moved ws vs e k n pos H =
+    rest_on ws e k n pos
+    ∙ ap (λ is. item_at ws (516 * e + k) ∷ is) (items_same ws vs (516 * e + (k + 1)) (516 * e + 0) (n - 1)
+    (λ a b l u s. item_same ws vs a b (λ p q pl pu ps.
     let at : p ≡ 4 * (k + 1) + q = omega arith in rw at (sym (H q (omega arith) (omega arith))))))

@@ -8,9 +8,9 @@ abbrev pub LeastOf : (ℕ → Type 0) → Option ℕ → Type 0
 LeastOf P None = (m : ℕ) → P m → ⊥
 LeastOf P (Some k) = P k × ((m : ℕ) → P m → k ≤ m)
 
-pub least-like : (P Q : ℕ → Type 0) (o : Option ℕ) → ((k : ℕ) → P k → Q k) → ((k : ℕ) → Q k → P k) → LeastOf P o → LeastOf Q o
-least-like P Q None to from h = λ m q. h m (from m q)
-least-like P Q (Some k) to from h = (to k h.0, λ m q. h.1 m (from m q))
+pub least_like : (P Q : ℕ → Type 0) (o : Option ℕ) → ((k : ℕ) → P k → Q k) → ((k : ℕ) → Q k → P k) → LeastOf P o → LeastOf Q o
+least_like P Q None to from h = λ m q. h m (from m q)
+least_like P Q (Some k) to from h = (to k h.0, λ m q. h.1 m (from m q))
 
 -- one number more
 least_more : (P : ℕ → Type 0) (o : Option ℕ) (n : ℕ) → LeastOf P o → LeastOf (λ k. P k ⊎ (k ≡ n)) (least o n)
@@ -60,14 +60,14 @@ module _ {X : Type 0} (proper : ℕ → X → Bool) (d : X) (ls : List ℕ) wher
   turn P i x best h = go (proper i x) refl
     where
       go : (t : Bool) → proper i x ≡ t → LeastOf (λ k. P k ⊎ First i x k) (cond t best (least best (get_or ls i 0)))
-      go true is = least-like P (λ k. P k ⊎ First i x k) best (λ k p. inl p) (λ k o. elim o [ inl p ↦ p | inr f ↦ absurd (clash (sym f.0 ∙ is)) ]) h
-      go false is = least-like (λ k. P k ⊎ (k ≡ get_or ls i 0)) (λ k. P k ⊎ First i x k) (least best (get_or ls i 0))
+      go true is = least_like P (λ k. P k ⊎ First i x k) best (λ k p. inl p) (λ k o. elim o [ inl p ↦ p | inr f ↦ absurd (clash (sym f.0 ∙ is)) ]) h
+      go false is = least_like (λ k. P k ⊎ (k ≡ get_or ls i 0)) (λ k. P k ⊎ First i x k) (least best (get_or ls i 0))
           (λ k o. elim o [ inl p ↦ inl p | inr e ↦ inr (is, e) ]) (λ k o. elim o [ inl p ↦ inl p | inr f ↦ inr f.1 ]) (least_more P best (get_or ls i 0) h)
 
   pub lowest-least : (P : ℕ → Type 0) (i : ℕ) (xs : List X) (best : Option ℕ) → LeastOf P best → LeastOf (λ k. P k ⊎ Fault i xs k) (lowest proper ls i xs best)
-  lowest-least P i [] best h = least-like P (λ k. P k ⊎ Fault i [] k) best (λ k p. inl p) (λ k o. elim o [ inl p ↦ p | inr f ↦ absurd (no-first i k f) ]) h
+  lowest-least P i [] best h = least_like P (λ k. P k ⊎ Fault i [] k) best (λ k p. inl p) (λ k o. elim o [ inl p ↦ p | inr f ↦ absurd (no-first i k f) ]) h
   lowest-least P i (x ∷ xs) best h =
-      least-like (λ k. (P k ⊎ First i x k) ⊎ Fault (i + 1) xs k) (λ k. P k ⊎ Fault i (x ∷ xs) k) (lowest proper ls i (x ∷ xs) best)
+      least_like (λ k. (P k ⊎ First i x k) ⊎ Fault (i + 1) xs k) (λ k. P k ⊎ Fault i (x ∷ xs) k) (lowest proper ls i (x ∷ xs) best)
       (λ k o. elim o [ inl q ↦ elim q [ inl p ↦ inl p | inr f ↦ inr (first_to i k x xs (inl f)) ] | inr f ↦ inr (first_to i k x xs (inr f)) ])
       (λ k o. elim o [ inl p ↦ inl (inl p) | inr f ↦ elim (first-from i k x xs f) [ inl a ↦ inl (inr a) | inr b ↦ inr b ] ])
       (lowest-least (λ k. P k ⊎ First i x k) (i + 1) xs (cond (proper i x) best (least best (get_or ls i 0))) (turn P i x best h))

@@ -16,9 +16,9 @@ module _ {X : Type 0} (proper : ℕ → X → Bool) where
   pub lowest-end : (ls : List ℕ) (xs : List X) (i : ℕ) (best out : Option ℕ) → length xs ≤ i → lowest proper ls i (drop i xs) best ≡ out → best ≡ out
   lowest-end ls xs i best out le inv = sym (at_drop_all (λ ys. lowest proper ls i ys best) xs i le) ∙ inv
 
-least-some : (best : Option ℕ) (n : ℕ) → least best n ≡ None → ⊥
-least-some None n h = let z : ◌≡◌ {A = ℕ} 0 1 = cc in omega arith
-least-some (Some m) n h = go (ltb n m) h
+least_some : (best : Option ℕ) (n : ℕ) → least best n ≡ None → ⊥
+least_some None n h = let z : ◌≡◌ {A = ℕ} 0 1 = cc in omega arith
+least_some (Some m) n h = go (ltb n m) h
   where
     go : (t : Bool) → cond t (Some n) (Some m) ≡ None → ⊥
     go true k = let z : ◌≡◌ {A = ℕ} 0 1 = cc in omega arith
@@ -32,7 +32,7 @@ module _ {X : Type 0} (proper : ℕ → X → Bool) (F : ℕ → List X → Bool
     where
       go : (t : Bool) → proper i x ≡ t → (cond t best (least best (get_or ls i 0)) ≡ None) × (F (i + 1) xs ≡ true) → (best ≡ None) × (F i (x ∷ xs) ≡ true)
       go true is (none, rest) = (none, F-∷ i x xs ∙ and_from (proper i x) (F (i + 1) xs) is rest)
-      go false is (none, rest) = absurd (least-some best (get_or ls i 0) none)
+      go false is (none, rest) = absurd (least_some best (get_or ls i 0) none)
 
   -- and the other way round
   pub all_found : (ls : List ℕ) (i : ℕ) (xs : List X) (best : Option ℕ) → F i xs ≡ true → lowest proper ls i xs best ≡ best

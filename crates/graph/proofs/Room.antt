@@ -15,9 +15,9 @@ module _ {X : Type 0} where
   room xs n cap l le ne = lt-true (length (take n xs)) cap (let e = length-take-le n xs (omega arith) in omega (arith, e))
 
 -- one worker more, one edge more
-pub worker-more : (ks : List Kind) (es : List Edge) (wl el : List ℕ) (n : ℕ) (k : Kind) (line : ℕ) → n < length ks → n < length wl →
+pub worker_more : (ks : List Kind) (es : List Edge) (wl el : List ℕ) (n : ℕ) (k : Kind) (line : ℕ) → n < length ks → n < length wl →
     shape (take (n + 1) (set ks n k)) es (take (n + 1) (set wl n line)) el ≡ shape (take n ks ++ k ∷ []) es (take n wl ++ line ∷ []) el
-worker-more ks es wl el n k line lk ll =
+worker_more ks es wl el n k line lk ll =
     ap (λ x. shape x es (take (n + 1) (set wl n line)) el) (take_more_set ks n k lk) ∙ ap (λ x. shape (take n ks ++ k ∷ []) es x el) (take_more_set wl n line ll)
 
 pub edge_more : (ks : List Kind) (es : List Edge) (wl el : List ℕ) (n : ℕ) (x : Edge) (line : ℕ) → n < length es → n < length el →

@@ -38,5 +38,5 @@ are (tag ∷ a ∷ b ∷ d ∷ ws) = elim (cases_Bool (eqb tag 1)) [
   ]
 ]
 
-pub words-tell : WordsTell
-words-tell i ws = (encoded i ws, λ h. subst (Are ws) h (are ws))
+pub words_tell_lem : WordsTell
+words_tell_lem i ws = (encoded i ws, λ h. subst (Are ws) h (are ws))

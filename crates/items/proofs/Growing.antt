@@ -7,8 +7,8 @@ use Rattle.items.specs.declared.journal.Reading.{Reading}
 use Rattle.items.specs.declared.journal.Reading.TheVariants.{Item as AnItem, NotYet, Unknown}
 use Rattle.items.specs.Journal.{first_of, big_at, behind, reading_at, GrowingKeeps, NotYetBefore}
 
-big-more : (bs more : List ℕ) (p : ℕ) → p + 3 < length bs → big_at (bs ++ more) p ≡ big_at bs p
-big-more bs more p h =
+big_more : (bs more : List ℕ) (p : ℕ) → p + 3 < length bs → big_at (bs ++ more) p ≡ big_at bs p
+big_more bs more p h =
     let a : get_or (bs ++ more) p 0 ≡ get_or bs p 0 = get_or_append_left bs more 0 p (omega arith) in
     let b : get_or (bs ++ more) (p + 1) 0 ≡ get_or bs (p + 1) 0 = get_or_append_left bs more 0 (p + 1) (omega arith) in
     let d : get_or (bs ++ more) (p + 2) 0 ≡ get_or bs (p + 2) 0 = get_or_append_left bs more 0 (p + 2) (omega arith) in
@@ -24,7 +24,7 @@ first_more (kind ∷ bs) more = elim (cases_Bool (eqb kind 1)) [
     | inr long ↦
         let l = ltb-false (length bs) 12 long in
         let m : ltb (length (bs ++ more)) 12 ≡ false = le-ltb (length (bs ++ more)) 12 (simp length-append (omega arith)) in
-        inr (rw (one, long, m, big-more bs more 0 (omega arith), big-more bs more 4 (omega arith), big-more bs more 8 (omega arith)) refl)
+        inr (rw (one, long, m, big_more bs more 0 (omega arith), big_more bs more 4 (omega arith), big_more bs more 8 (omega arith)) refl)
   ]
   | inr other ↦ elim (cases_Bool (eqb kind 2)) [
     | inl two ↦ elim (cases_Bool (ltb (length bs) 4)) [
@@ -32,7 +32,7 @@ first_more (kind ∷ bs) more = elim (cases_Bool (eqb kind 1)) [
       | inr long ↦
           let l = ltb-false (length bs) 4 long in
           let m : ltb (length (bs ++ more)) 4 ≡ false = le-ltb (length (bs ++ more)) 4 (simp length-append (omega arith)) in
-          inr (rw (other, two, long, m, big-more bs more 0 (omega arith)) refl)
+          inr (rw (other, two, long, m, big_more bs more 0 (omega arith)) refl)
     ]
     | inr none ↦ inr (rw (other, none) refl)
   ]
@@ -89,27 +89,27 @@ abbrev Kept : ℕ → List ℕ → List ℕ → Type 0
 Kept n bs more = (reading_at n bs ≡ NotYet) ⊎ (reading_at n (bs ++ more) ≡ reading_at n bs)
 
 -- behind an item that is there, as it is further on
-kept-behind : (n : ℕ) (bs more : List ℕ) → ((cs : List ℕ) → Kept n cs more) → (r : Reading) → first_of bs ≡ r → first_of (bs ++ more) ≡ first_of bs → Kept (suc n) bs more
+kept_behind : (n : ℕ) (bs more : List ℕ) → ((cs : List ℕ) → Kept n cs more) → (r : Reading) → first_of bs ≡ r → first_of (bs ++ more) ≡ first_of bs → Kept (suc n) bs more
 unfolding reading_at
-kept-behind n bs more further (AnItem i k) e s =
+kept_behind n bs more further (AnItem i k) e s =
     let d : drop k (bs ++ more) ≡ drop k bs ++ more = drop-append-le k bs more (first_fits bs i k e).1 in
     elim (further (drop k bs)) [
       | inl none ↦ inl (rw e none)
       | inr same ↦ inr (rw (s, e, d) same)
     ]
-kept-behind n bs more further NotYet e s = inl (rw e refl)
-kept-behind n bs more further Unknown e s = inr (rw (s, e) refl)
+kept_behind n bs more further NotYet e s = inl (rw e refl)
+kept_behind n bs more further Unknown e s = inr (rw (s, e) refl)
 
 kept : (n : ℕ) (bs more : List ℕ) → Kept n bs more
 unfolding reading_at
 kept zero bs more = first_more bs more
 kept (suc n) bs more = elim (first_more bs more) [
   | inl none ↦ inl (ap (behind (reading_at n) bs) none)
-  | inr same ↦ kept-behind n bs more (λ cs. kept n cs more) (first_of bs) refl same
+  | inr same ↦ kept_behind n bs more (λ cs. kept n cs more) (first_of bs) refl same
 ]
 
-pub growing-keeps : GrowingKeeps
-growing-keeps n bs more there = elim (kept n bs more) [ inl none ↦ absurd (there none) | inr same ↦ same ]
+pub growing_keeps_lem : GrowingKeeps
+growing_keeps_lem n bs more there = elim (kept n bs more) [ inl none ↦ absurd (there none) | inr same ↦ same ]
 
-pub not-yet-before : NotYetBefore
-not-yet-before n bs more none = elim (kept n bs more) [ inl before ↦ before | inr same ↦ sym same ∙ none ]
+pub not_yet_before_lem : NotYetBefore
+not_yet_before_lem n bs more none = elim (kept n bs more) [ inl before ↦ before | inr same ↦ sym same ∙ none ]

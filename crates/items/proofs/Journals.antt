@@ -9,11 +9,11 @@ use Rattle.items.specs.Journal.{first_of, big_at}
 abbrev Took : List ℕ → ℕ → List ℕ → Type 0
 Took bs w rest = (4 ≤ length bs) × (w ≡ big_at bs 0) × (rest ≡ drop 4 bs)
 
-pub first-record : (bs r1 r2 r3 : List ℕ) (k t a : ℕ) → get_or bs 0 0 ≡ 1 →
+pub first_record : (bs r1 r2 r3 : List ℕ) (k t a : ℕ) → get_or bs 0 0 ≡ 1 →
     Took (take (length bs - 1) (drop 1 bs)) k r1 → Took r1 t r2 → Took r2 a r3 →
     AnItem (ARecord (record { key = k; time = t; amount = a })) 13 ≡ first_of bs
-first-record [] r1 r2 r3 k t a one h1 h2 h3 = absurd (omega (arith, h1.0))
-first-record (x ∷ bs) r1 r2 r3 k t a one h1 h2 h3 =
+first_record [] r1 r2 r3 k t a one h1 h2 h3 = absurd (omega (arith, h1.0))
+first_record (x ∷ bs) r1 r2 r3 k t a one h1 h2 h3 =
     let e : take (suc (length bs) - 1) bs ≡ bs = take_rest (x ∷ bs) 1 in
     let v1 : k ≡ big_at bs 0 = rw e at h1.1 in
     let e1 : r1 ≡ drop 4 bs = rw e at h1.2 in

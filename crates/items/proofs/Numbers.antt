@@ -33,5 +33,5 @@ bounds UnknownItem = (omega arith, omega arith)
 bounds BadCheckpoint = (omega arith, omega arith)
 bounds CounterFull = (omega arith, omega arith)
 
-pub numbers-tell : NumbersTell
-numbers-tell r s = ((bounds r).0, (bounds r).1, λ same. sym (back r) ∙ (ap refusal_of same ∙ back s))
+pub numbers_tell_lem : NumbersTell
+numbers_tell_lem r s = ((bounds r).0, (bounds r).1, λ same. sym (back r) ∙ (ap refusal_of same ∙ back s))

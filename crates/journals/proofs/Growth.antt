@@ -1,6 +1,6 @@
 -- A reader's journal, from one moment to a later one.
 use Rattle.std.proofs.Common.{◌≡◌, ℕ, List, [], ◌++◌, Ok, Err, sym, ap, ◌∙◌, append_assoc, append-nil, arith}
-use Rattle.items.proofs.Growing.{growing-keeps}
+use Rattle.items.proofs.Growing.{growing_keeps_lem}
 use Rattle.journals.specs.declared.stop.Stop.TheVariants.{NotYet as StopNotYet}
 use Rattle.journals.specs.Handing.{Grew, ItemStays, told}
 
@@ -14,6 +14,6 @@ grew_then j g k h l i p q = (
   q.2 ∙ ap (λ (x : List ℕ). x ++ q.0) p.2 ∙ append_assoc g p.0 q.0,
 )
 
-pub item-stays : ItemStays
-item-stays n journal more i h =
-    ap told (growing-keeps n journal more (λ none. let c : Err StopNotYet ≡ Ok i = sym (ap told none) ∙ h in let z : ◌≡◌ {A = ℕ} 0 1 = cc in absurd (omega arith))) ∙ h
+pub item_stays_lem : ItemStays
+item_stays_lem n journal more i h =
+    ap told (growing_keeps_lem n journal more (λ none. let c : Err StopNotYet ≡ Ok i = sym (ap told none) ∙ h in let z : ◌≡◌ {A = ℕ} 0 1 = cc in absurd (omega arith))) ∙ h

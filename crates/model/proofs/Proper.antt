@@ -7,20 +7,20 @@ use Rattle.model.specs.declared.Kind.TheVariants.{Source, Keep, Scale, Group, Sp
 use Rattle.model.specs.declared.Edge.{Edge}
 use Rattle.model.specs.Graph.{Topology, no_edge, most_workers, most_edges, kind_at, is_source, is_sink, in_range, reached, left, worker_proper, edge_proper, workers_proper, edges_proper, sized, proper, InRange, Proper, ProperIs}
 
-decides-leb : (a b : ℕ) → Decides (leb a b) (a ≤ b)
-decides-leb a b = (leb-true a b, le-leb a b)
+decides_leb : (a b : ℕ) → Decides (leb a b) (a ≤ b)
+decides_leb a b = (leb-true a b, le-leb a b)
 
 always : Decides true (Unit {0})
 always = (λ _. tt, λ _. refl)
 
-range-is : (k : Kind) → Decides (in_range k) (InRange k)
-range-is Source = always
-range-is (Keep low high) = decides-leb low high
-range-is (Scale times by) = Decides-ltb 0 by
-range-is (Group by) = Decides-ltb 0 by
-range-is Spread = always
-range-is (Window long) = Decides-ltb 0 long
-range-is Sink = always
+range_is : (k : Kind) → Decides (in_range k) (InRange k)
+range_is Source = always
+range_is (Keep low high) = decides_leb low high
+range_is (Scale times by) = Decides-ltb 0 by
+range_is (Group by) = Decides-ltb 0 by
+range_is Spread = always
+range_is (Window long) = Decides-ltb 0 long
+range_is Sink = always
 
 pub source_is : (k : Kind) → Decides (is_source k) (k ≡ Source)
 source_is Source = (λ _. refl, λ _. refl)
@@ -31,14 +31,14 @@ source_is Spread = (λ h. absurd (clash h), λ h. ap is_source h)
 source_is (Window long) = (λ h. absurd (clash h), λ h. ap is_source h)
 source_is Sink = (λ h. absurd (clash h), λ h. ap is_source h)
 
-pub sink-is : (k : Kind) → Decides (is_sink k) (k ≡ Sink)
-sink-is Source = (λ h. absurd (clash h), λ h. ap is_sink h)
-sink-is (Keep low high) = (λ h. absurd (clash h), λ h. ap is_sink h)
-sink-is (Scale times by) = (λ h. absurd (clash h), λ h. ap is_sink h)
-sink-is (Group by) = (λ h. absurd (clash h), λ h. ap is_sink h)
-sink-is Spread = (λ h. absurd (clash h), λ h. ap is_sink h)
-sink-is (Window long) = (λ h. absurd (clash h), λ h. ap is_sink h)
-sink-is Sink = (λ _. refl, λ _. refl)
+pub sink_is : (k : Kind) → Decides (is_sink k) (k ≡ Sink)
+sink_is Source = (λ h. absurd (clash h), λ h. ap is_sink h)
+sink_is (Keep low high) = (λ h. absurd (clash h), λ h. ap is_sink h)
+sink_is (Scale times by) = (λ h. absurd (clash h), λ h. ap is_sink h)
+sink_is (Group by) = (λ h. absurd (clash h), λ h. ap is_sink h)
+sink_is Spread = (λ h. absurd (clash h), λ h. ap is_sink h)
+sink_is (Window long) = (λ h. absurd (clash h), λ h. ap is_sink h)
+sink_is Sink = (λ _. refl, λ _. refl)
 
 -- some edge has an end at w, by a test over the list
 module _ (F : List Edge → Bool) (f : Edge → ℕ) (w : ℕ) (F-[] : F [] ≡ false) (F-∷ : (x : Edge) (xs : List Edge) → F (x ∷ xs) ≡ (eqb (f x) w || F xs)) where
@@ -68,24 +68,24 @@ WorkerProper es w k =
     × (((k ≡ Source) ⊎ ((e : ℕ) × (e < length es) × ((get_or es e no_edge).to ≡ w)))
     × ((k ≡ Sink) ⊎ ((e : ℕ) × (e < length es) × ((get_or es e no_edge).from ≡ w))))
 
-worker-is : (es : List Edge) (w : ℕ) (k : Kind) → Decides (worker_proper es w k) (WorkerProper es w k)
-worker-is es w k =
-    Decides-and (in_range k) ((is_source k || reached w es) && (is_sink k || left w es)) (range-is k)
+worker_is : (es : List Edge) (w : ℕ) (k : Kind) → Decides (worker_proper es w k) (WorkerProper es w k)
+worker_is es w k =
+    Decides-and (in_range k) ((is_source k || reached w es) && (is_sink k || left w es)) (range_is k)
     (Decides-and (is_source k || reached w es) (is_sink k || left w es)
     (Decides-or (is_source k) (reached w es) (source_is k) (some_is (reached w) (λ x. x.to) w refl (λ x xs. refl) es))
-    (Decides-or (is_sink k) (left w es) (sink-is k) (some_is (left w) (λ x. x.from) w refl (λ x xs. refl) es)))
+    (Decides-or (is_sink k) (left w es) (sink_is k) (some_is (left w) (λ x. x.from) w refl (λ x xs. refl) es)))
 
 abbrev EdgeProper : List Kind → Edge → Type 0
 EdgeProper ks x =
     (x.from < x.to) × ((x.to < length ks) × ((get_or ks x.to Source ≡ Source → ⊥) × (get_or ks x.from Source ≡ Sink → ⊥)))
 
-edge-is : (ks : List Kind) (x : Edge) → Decides (edge_proper ks x) (EdgeProper ks x)
-edge-is ks x =
+edge_is : (ks : List Kind) (x : Edge) → Decides (edge_proper ks x) (EdgeProper ks x)
+edge_is ks x =
     Decides-and (ltb x.from x.to) (ltb x.to (length ks) && (not (is_source (get_or ks x.to Source)) && not (is_sink (get_or ks x.from Source)))) (Decides-ltb x.from x.to)
     (Decides-and (ltb x.to (length ks)) (not (is_source (get_or ks x.to Source)) && not (is_sink (get_or ks x.from Source))) (Decides-ltb x.to (length ks))
     (Decides-and (not (is_source (get_or ks x.to Source))) (not (is_sink (get_or ks x.from Source)))
     (Decides-not (is_source (get_or ks x.to Source)) (source_is (get_or ks x.to Source)))
-    (Decides-not (is_sink (get_or ks x.from Source)) (sink-is (get_or ks x.from Source)))))
+    (Decides-not (is_sink (get_or ks x.from Source)) (sink_is (get_or ks x.from Source)))))
 
 -- each of a list, numbered from w on
 abbrev EachWorker : List Edge → ℕ → List Kind → Type 0
@@ -103,32 +103,32 @@ each_back es w k ks h = (
   λ i l. let e : w + suc i ≡ (w + 1) + i = omega arith in subst (λ n. WorkerProper es n (get_or ks i Source)) e (h (suc i) (omega arith)),
 )
 
-workers-is : (es : List Edge) (w : ℕ) (ks : List Kind) → Decides (workers_proper es w ks) (EachWorker es w ks)
-workers-is es w [] = (λ _ i l. absurd (omega arith), λ _. refl)
-workers-is es w (k ∷ ks) =
+workers_is : (es : List Edge) (w : ℕ) (ks : List Kind) → Decides (workers_proper es w ks) (EachWorker es w ks)
+workers_is es w [] = (λ _ i l. absurd (omega arith), λ _. refl)
+workers_is es w (k ∷ ks) =
     Decides-like (workers_proper es w (k ∷ ks)) (each_first es w k ks) (each_back es w k ks)
-    (Decides-and (worker_proper es w k) (workers_proper es (w + 1) ks) (worker-is es w k) (workers-is es (w + 1) ks))
+    (Decides-and (worker_proper es w k) (workers_proper es (w + 1) ks) (worker_is es w k) (workers_is es (w + 1) ks))
 
 abbrev EachEdge : List Kind → List Edge → Type 0
 EachEdge ks es = (e : ℕ) → e < length es → EdgeProper ks (get_or es e no_edge)
 
-edge-first : (ks : List Kind) (x : Edge) (xs : List Edge) → EdgeProper ks x × EachEdge ks xs → EachEdge ks (x ∷ xs)
-edge-first ks x xs (a, b) zero l = a
-edge-first ks x xs (a, b) (suc e) l = b e (omega arith)
+edge_first : (ks : List Kind) (x : Edge) (xs : List Edge) → EdgeProper ks x × EachEdge ks xs → EachEdge ks (x ∷ xs)
+edge_first ks x xs (a, b) zero l = a
+edge_first ks x xs (a, b) (suc e) l = b e (omega arith)
 
-edges-is : (ks : List Kind) (es : List Edge) → Decides (edges_proper ks es) (EachEdge ks es)
-edges-is ks [] = (λ _ e l. absurd (omega arith), λ _. refl)
-edges-is ks (x ∷ xs) =
-    Decides-like (edges_proper ks (x ∷ xs)) (edge-first ks x xs) (λ h. (h zero (omega arith), λ e l. h (suc e) (omega arith)))
-    (Decides-and (edge_proper ks x) (edges_proper ks xs) (edge-is ks x) (edges-is ks xs))
+edges_is : (ks : List Kind) (es : List Edge) → Decides (edges_proper ks es) (EachEdge ks es)
+edges_is ks [] = (λ _ e l. absurd (omega arith), λ _. refl)
+edges_is ks (x ∷ xs) =
+    Decides-like (edges_proper ks (x ∷ xs)) (edge_first ks x xs) (λ h. (h zero (omega arith), λ e l. h (suc e) (omega arith)))
+    (Decides-and (edge_proper ks x) (edges_proper ks xs) (edge_is ks x) (edges_is ks xs))
 
 abbrev Sized : Topology → Type 0
 Sized g = (0 < length g.kinds) × ((length g.kinds ≤ most_workers) × (length g.edges ≤ most_edges))
 
-sized-is : (g : Topology) → Decides (sized g) (Sized g)
-sized-is g =
+sized_is : (g : Topology) → Decides (sized g) (Sized g)
+sized_is g =
     Decides-and (ltb 0 (length g.kinds)) (leb (length g.kinds) most_workers && leb (length g.edges) most_edges) (Decides-ltb 0 (length g.kinds))
-    (Decides-and (leb (length g.kinds) most_workers) (leb (length g.edges) most_edges) (decides-leb (length g.kinds) most_workers) (decides-leb (length g.edges) most_edges))
+    (Decides-and (leb (length g.kinds) most_workers) (leb (length g.edges) most_edges) (decides_leb (length g.kinds) most_workers) (decides_leb (length g.edges) most_edges))
 
 abbrev Parts : Topology → Type 0
 Parts g = Sized g × (EachWorker g.edges 0 g.kinds × EachEdge g.kinds g.edges)
@@ -158,8 +158,8 @@ apart g p = (
   ),
 )
 
-pub proper-is : ProperIs
-proper-is g =
+pub proper_is_lem : ProperIs
+proper_is_lem g =
     Decides-like (proper g) (together g) (apart g)
-    (Decides-and (sized g) (workers_proper g.edges 0 g.kinds && edges_proper g.kinds g.edges) (sized-is g)
-    (Decides-and (workers_proper g.edges 0 g.kinds) (edges_proper g.kinds g.edges) (workers-is g.edges 0 g.kinds) (edges-is g.kinds g.edges)))
+    (Decides-and (sized g) (workers_proper g.edges 0 g.kinds && edges_proper g.kinds g.edges) (sized_is g)
+    (Decides-and (workers_proper g.edges 0 g.kinds) (edges_proper g.kinds g.edges) (workers_is g.edges 0 g.kinds) (edges_is g.kinds g.edges)))

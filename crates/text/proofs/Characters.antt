@@ -9,52 +9,52 @@ use Rattle.std.proofs.lemmas.Str.{encodes-chars, scalars-chars}
 use Rattle.text.specs.Name.{visible, is_utf8, is_name, NameIs}
 use Rattle.text.specs.Laws.{lacks}
 
-pub utf8-is : (bs : List ℕ) → Decides (is_utf8 bs) (IsUtf8 bs)
-utf8-is bs =
+pub utf8_is : (bs : List ℕ) → Decides (is_utf8 bs) (IsUtf8 bs)
+utf8_is bs =
     let same : Decides (bytes_eq (encodes (chars bs)) bs) (encodes (chars bs) ≡ bs) = bytes_eq-Decides (encodes (chars bs)) bs in (
       λ h. let p = and_parts (scalars (chars bs)) (bytes_eq (encodes (chars bs)) bs) h in (chars bs, (p.0, same.0 p.1)),
       λ u. and_from (scalars (chars bs)) (bytes_eq (encodes (chars bs)) bs) (scalars-chars bs u) (same.1 (encodes-chars bs u)),
     )
 
-pub utf8-yes : (bs : List ℕ) → IsUtf8 bs → true ≡ is_utf8 bs
-utf8-yes bs u = sym ((utf8-is bs).1 u)
+pub utf8_yes : (bs : List ℕ) → IsUtf8 bs → true ≡ is_utf8 bs
+utf8_yes bs u = sym ((utf8_is bs).1 u)
 
-pub utf8-no : (bs : List ℕ) → (IsUtf8 bs → ⊥) → false ≡ is_utf8 bs
-utf8-no bs no_way = elim (cases_Bool (is_utf8 bs)) [ inl h ↦ absurd (no_way ((utf8-is bs).0 h)) | inr h ↦ sym h ]
+pub utf8_no : (bs : List ℕ) → (IsUtf8 bs → ⊥) → false ≡ is_utf8 bs
+utf8_no bs no_way = elim (cases_Bool (is_utf8 bs)) [ inl h ↦ absurd (no_way ((utf8_is bs).0 h)) | inr h ↦ sym h ]
 
 abbrev Visible : List ℕ → Type 0
 Visible w = (i : ℕ) → i < length w → 32 < get_or w i 0
 
-visible-from : (bs : List ℕ) → visible bs ≡ true → Visible bs
-visible-from [] h i l = absurd (omega arith)
-visible-from (b ∷ bs) h zero l = ltb-true 32 b (and_parts (ltb 32 b) (visible bs) h).0
-visible-from (b ∷ bs) h (suc i) l = visible-from bs (and_parts (ltb 32 b) (visible bs) h).1 i (omega arith)
+visible_from : (bs : List ℕ) → visible bs ≡ true → Visible bs
+visible_from [] h i l = absurd (omega arith)
+visible_from (b ∷ bs) h zero l = ltb-true 32 b (and_parts (ltb 32 b) (visible bs) h).0
+visible_from (b ∷ bs) h (suc i) l = visible_from bs (and_parts (ltb 32 b) (visible bs) h).1 i (omega arith)
 
-visible-to : (bs : List ℕ) → Visible bs → visible bs ≡ true
-visible-to [] v = refl
-visible-to (b ∷ bs) v = and_from (ltb 32 b) (visible bs) (lt-ltb 32 b (v zero (omega arith))) (visible-to bs (λ i l. v (suc i) (omega arith)))
+visible_to : (bs : List ℕ) → Visible bs → visible bs ≡ true
+visible_to [] v = refl
+visible_to (b ∷ bs) v = and_from (ltb 32 b) (visible bs) (lt-ltb 32 b (v zero (omega arith))) (visible_to bs (λ i l. v (suc i) (omega arith)))
 
-pub name-is : NameIs
-name-is w = (forth (eqb (length w) 0) refl (visible w) refl, λ p. back p.0 p.1.0 p.1.1)
+pub name_is_lem : NameIs
+name_is_lem w = (forth (eqb (length w) 0) refl (visible w) refl, λ p. back p.0 p.1.0 p.1.1)
   where
     forth : (e : Bool) → eqb (length w) 0 ≡ e → (v : Bool) → visible w ≡ v → cond e false (cond v (is_utf8 w) false) ≡ true → (0 < length w) × (Visible w × IsUtf8 w)
     forth true e v is h = absurd (clash h)
-    forth false e true is h = (let n = eqb-false (length w) 0 e in omega (arith, n), (visible-from w is, (utf8-is w).0 h))
+    forth false e true is h = (let n = eqb-false (length w) 0 e in omega (arith, n), (visible_from w is, (utf8_is w).0 h))
     forth false e false is h = absurd (clash h)
 
     back : 0 < length w → Visible w → IsUtf8 w → is_name w ≡ true
     back some v u =
         let e : eqb (length w) 0 ≡ false = ne_eqb (length w) 0 (omega arith) in
-        let a : visible w ≡ true = visible-to w v in
-        rw (e, a) ((utf8-is w).1 u)
+        let a : visible w ≡ true = visible_to w v in
+        rw (e, a) ((utf8_is w).1 u)
 
 -- a name has neither spaces nor line feeds
-pub visible-lacks : (e : ℕ) (bs : List ℕ) → e ≤ 32 → visible bs ≡ true → lacks e bs ≡ true
-visible-lacks e [] l h = refl
-visible-lacks e (b ∷ bs) l h =
+pub visible_lacks : (e : ℕ) (bs : List ℕ) → e ≤ 32 → visible bs ≡ true → lacks e bs ≡ true
+visible_lacks e [] l h = refl
+visible_lacks e (b ∷ bs) l h =
     let p = and_parts (ltb 32 b) (visible bs) h in
     let above = ltb-true 32 b p.0 in
-    and_from (not (eqb b e)) (lacks e bs) (not_from_false (eqb b e) (ne_eqb b e (omega (arith, above)))) (visible-lacks e bs l p.1)
+    and_from (not (eqb b e)) (lacks e bs) (not_from_false (eqb b e) (ne_eqb b e (omega (arith, above)))) (visible_lacks e bs l p.1)
 
-pub name-lacks : (e : ℕ) (w : List ℕ) → e ≤ 32 → is_name w ≡ true → lacks e w ≡ true
-name-lacks e w l h = visible-lacks e w l (visible-to w ((name-is w).0 h).1.0)
+pub name_lacks : (e : ℕ) (w : List ℕ) → e ≤ 32 → is_name w ≡ true → lacks e w ≡ true
+name_lacks e w l h = visible_lacks e w l (visible_to w ((name_is_lem w).0 h).1.0)

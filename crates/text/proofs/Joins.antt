@@ -6,33 +6,33 @@ use Rattle.text.specs.Words.{onto, parts_of, words_of, lines_of}
 use Rattle.text.specs.Laws.{lacks, all_lack, spaced, joined, ended, WordsJoin, WordsAre, LinesJoin, LinesAre}
 
 -- a part, its end, and the rest
-pub part-first : (e : ℕ) (base : List (List ℕ)) (w bs : List ℕ) → lacks e w ≡ true → parts_of e base (w ++ e ∷ bs) ≡ w ∷ parts_of e base bs
-part-first e base [] bs h = go (eqb e e) (eq-eqb e e refl)
+pub part_first : (e : ℕ) (base : List (List ℕ)) (w bs : List ℕ) → lacks e w ≡ true → parts_of e base (w ++ e ∷ bs) ≡ w ∷ parts_of e base bs
+part_first e base [] bs h = go (eqb e e) (eq-eqb e e refl)
   where
     go : (t : Bool) → t ≡ true → cond t ([] ∷ parts_of e base bs) (onto e (parts_of e base bs)) ≡ [] ∷ parts_of e base bs
     go t is = rw is refl
-part-first e base (b ∷ w) bs h =
+part_first e base (b ∷ w) bs h =
     let p : (not (eqb b e) ≡ true) × (lacks e w ≡ true) = and_parts (not (eqb b e)) (lacks e w) h in
-    rw (not-true (eqb b e) p.0) (ap (onto b) (part-first e base w bs p.1))
+    rw (not-true (eqb b e) p.0) (ap (onto b) (part_first e base w bs p.1))
 
 -- a part with nothing after it
-word-last : (w : List ℕ) → lacks 32 w ≡ true → words_of w ≡ w ∷ []
-word-last [] h = refl
-word-last (b ∷ w) h =
+word_last : (w : List ℕ) → lacks 32 w ≡ true → words_of w ≡ w ∷ []
+word_last [] h = refl
+word_last (b ∷ w) h =
     let p : (not (eqb b 32) ≡ true) × (lacks 32 w ≡ true) = and_parts (not (eqb b 32)) (lacks 32 w) h in
-    rw (not-true (eqb b 32) p.0) (ap (onto b) (word-last w p.1))
+    rw (not-true (eqb b 32) p.0) (ap (onto b) (word_last w p.1))
 
-pub words-join : WordsJoin
-words-join w [] h = word-last w (and_parts (lacks 32 w) true h).0
-words-join w (v ∷ vs) h =
+pub words_join_lem : WordsJoin
+words_join_lem w [] h = word_last w (and_parts (lacks 32 w) true h).0
+words_join_lem w (v ∷ vs) h =
     let p = and_parts (lacks 32 w) (all_lack 32 (v ∷ vs)) h in
-    part-first 32 ([] ∷ []) w (spaced v vs) p.0 ∙ ap (λ x. w ∷ x) (words-join v vs p.1)
+    part_first 32 ([] ∷ []) w (spaced v vs) p.0 ∙ ap (λ x. w ∷ x) (words_join_lem v vs p.1)
 
 pub lines_join : LinesJoin
 lines_join [] h = refl
 lines_join (l ∷ ls) h =
     let p = and_parts (lacks 10 l) (all_lack 10 ls) h in
-    part-first 10 [] l (ended ls) p.0 ∙ ap (λ x. l ∷ x) (lines_join ls p.1)
+    part_first 10 [] l (ended ls) p.0 ∙ ap (λ x. l ∷ x) (lines_join ls p.1)
 
 -- what two parts lack, both together lack
 lacks_both : (e : ℕ) (v w : List ℕ) → lacks e v ≡ true → lacks e w ≡ true → lacks e (v ++ w) ≡ true
@@ -42,17 +42,17 @@ lacks_both e (b ∷ v) w h k =
     and_from (not (eqb b e)) (lacks e (v ++ w)) p.0 (lacks_both e v w p.1 k)
 
 -- words that lack a byte, one space apart, lack it, unless it is a space
-pub lacks-spaced : (e : ℕ) (w : List ℕ) (ws : List (List ℕ)) → (32 ≡ e → ⊥) → all_lack e (w ∷ ws) ≡ true → lacks e (spaced w ws) ≡ true
-lacks-spaced e w [] other h = (and_parts (lacks e w) true h).0
-lacks-spaced e w (v ∷ vs) other h =
+pub lacks_spaced : (e : ℕ) (w : List ℕ) (ws : List (List ℕ)) → (32 ≡ e → ⊥) → all_lack e (w ∷ ws) ≡ true → lacks e (spaced w ws) ≡ true
+lacks_spaced e w [] other h = (and_parts (lacks e w) true h).0
+lacks_spaced e w (v ∷ vs) other h =
     let p = and_parts (lacks e w) (all_lack e (v ∷ vs)) h in
     lacks_both e w (32 ∷ spaced v vs) p.0
-    (and_from (not (eqb 32 e)) (lacks e (spaced v vs)) (not_from_false (eqb 32 e) (ne_eqb 32 e other)) (lacks-spaced e v vs other p.1))
+    (and_from (not (eqb 32 e)) (lacks e (spaced v vs)) (not_from_false (eqb 32 e) (ne_eqb 32 e other)) (lacks_spaced e v vs other p.1))
 
 -- and the other way round: parts taken apart and put together
-parts-lack : (e : ℕ) (base : List (List ℕ)) (bs : List ℕ) → all_lack e base ≡ true → all_lack e (parts_of e base bs) ≡ true
-parts-lack e base [] h = h
-parts-lack e base (b ∷ bs) h = go (eqb b e) refl (parts_of e base bs) (parts-lack e base bs h)
+parts_lack : (e : ℕ) (base : List (List ℕ)) (bs : List ℕ) → all_lack e base ≡ true → all_lack e (parts_of e base bs) ≡ true
+parts_lack e base [] h = h
+parts_lack e base (b ∷ bs) h = go (eqb b e) refl (parts_of e base bs) (parts_lack e base bs h)
   where
     with-one : eqb b e ≡ false → (ws : List (List ℕ)) → all_lack e ws ≡ true → all_lack e (onto b ws) ≡ true
     with-one other [] k = and_from (lacks e (b ∷ [])) true (and_from (not (eqb b e)) true (not_from_false (eqb b e) other) refl) refl
@@ -64,13 +64,13 @@ parts-lack e base (b ∷ bs) h = go (eqb b e) refl (parts_of e base bs) (parts-l
     go true is ws k = k
     go false is ws k = with-one is ws k
 
-joined-onto : (b : ℕ) (ws : List (List ℕ)) → joined (onto b ws) ≡ b ∷ joined ws
-joined-onto b [] = refl
-joined-onto b (w ∷ []) = refl
-joined-onto b (w ∷ v ∷ vs) = refl
+joined_onto : (b : ℕ) (ws : List (List ℕ)) → joined (onto b ws) ≡ b ∷ joined ws
+joined_onto b [] = refl
+joined_onto b (w ∷ []) = refl
+joined_onto b (w ∷ v ∷ vs) = refl
 
-joined-space : (w : List ℕ) (ws : List (List ℕ)) → joined ([] ∷ w ∷ ws) ≡ 32 ∷ joined (w ∷ ws)
-joined-space w ws = refl
+joined_space : (w : List ℕ) (ws : List (List ℕ)) → joined ([] ∷ w ∷ ws) ≡ 32 ∷ joined (w ∷ ws)
+joined_space w ws = refl
 
 some_word : (bs : List ℕ) → words_of bs ≡ [] → ⊥
 some_word [] h = let z : ◌≡◌ {A = ℕ} 0 1 = cc in omega arith
@@ -81,17 +81,17 @@ some_word (b ∷ bs) h = go (eqb b 32) (parts_of 32 ([] ∷ []) bs) h
     go false [] k = let z : ◌≡◌ {A = ℕ} 0 1 = cc in omega arith
     go false (w ∷ ws) k = let z : ◌≡◌ {A = ℕ} 0 1 = cc in omega arith
 
-words-joined : (l : List ℕ) → joined (words_of l) ≡ l
-words-joined [] = refl
-words-joined (b ∷ bs) = go (eqb b 32) refl (words_of bs) (some_word bs) (words-joined bs)
+words_joined : (l : List ℕ) → joined (words_of l) ≡ l
+words_joined [] = refl
+words_joined (b ∷ bs) = go (eqb b 32) refl (words_of bs) (some_word bs) (words_joined bs)
   where
     go : (t : Bool) → eqb b 32 ≡ t → (ws : List (List ℕ)) → (ws ≡ [] → ⊥) → joined ws ≡ bs → joined (cond t ([] ∷ ws) (onto b ws)) ≡ b ∷ bs
     go true is [] some h = absurd (some refl)
-    go true is (w ∷ ws) some h = joined-space w ws ∙ (ap (λ x. 32 ∷ x) h ∙ ap (λ x. x ∷ bs) (sym (eqb-true b 32 is)))
-    go false is ws some h = joined-onto b ws ∙ ap (λ x. b ∷ x) h
+    go true is (w ∷ ws) some h = joined_space w ws ∙ (ap (λ x. 32 ∷ x) h ∙ ap (λ x. x ∷ bs) (sym (eqb-true b 32 is)))
+    go false is ws some h = joined_onto b ws ∙ ap (λ x. b ∷ x) h
 
 pub words_are : WordsAre
-words_are l = (parts-lack 32 ([] ∷ []) l refl, words-joined l)
+words_are l = (parts_lack 32 ([] ∷ []) l refl, words_joined l)
 
 abbrev Ended : List ℕ → List (List ℕ) → Type 0
 Ended t ls = (ended ls ≡ t) ⊎ (ended ls ≡ t ++ 10 ∷ [])
@@ -110,9 +110,9 @@ no_line (b ∷ bs) h = absurd (go (eqb b 10) (parts_of 10 [] bs) h)
     go false [] k = let z : ◌≡◌ {A = ℕ} 0 1 = cc in omega arith
     go false (w ∷ ls) k = let z : ◌≡◌ {A = ℕ} 0 1 = cc in omega arith
 
-lines-ended : (t : List ℕ) → Ended t (lines_of t)
-lines-ended [] = inl refl
-lines-ended (b ∷ bs) = go (eqb b 10) refl (lines_of bs) (no_line bs) (lines-ended bs)
+lines_ended : (t : List ℕ) → Ended t (lines_of t)
+lines_ended [] = inl refl
+lines_ended (b ∷ bs) = go (eqb b 10) refl (lines_of bs) (no_line bs) (lines_ended bs)
   where
     go : (t : Bool) → eqb b 10 ≡ t → (ls : List (List ℕ)) → (ls ≡ [] → bs ≡ []) → Ended bs ls → Ended (b ∷ bs) (cond t ([] ∷ ls) (onto b ls))
     go true is ls none (inl h) = inl (ap (λ x. 10 ∷ x) h ∙ ap (λ x. x ∷ bs) (sym (eqb-true b 10 is)))
@@ -120,4 +120,4 @@ lines-ended (b ∷ bs) = go (eqb b 10) refl (lines_of bs) (no_line bs) (lines-en
     go false is ls none h = with_byte b bs ls none h
 
 pub lines_are : LinesAre
-lines_are t = (parts-lack 10 [] t refl, lines-ended t)
+lines_are t = (parts_lack 10 [] t refl, lines_ended t)

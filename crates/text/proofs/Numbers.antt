@@ -19,12 +19,12 @@ value_of v (b ∷ bs) = value_of (v * 10 + (b - 48)) bs
 own : IsNumeralModel AllDigits (value_of 0)
 own = numerals_by_fold AllDigits (search rules) value_of (search rules)
 
-some-not-none : (n : ℕ) → None ≡ Some n → ⊥
-some-not-none n h = let z : ◌≡◌ {A = ℕ} 0 1 = cc in omega arith
+some_not_none : (n : ℕ) → None ≡ Some n → ⊥
+some_not_none n h = let z : ◌≡◌ {A = ℕ} 0 1 = cc in omega arith
 
 -- what was read passed a test
 chosen : (t : Bool) (o : Option ℕ) (bs : List ℕ) (n : ℕ) → digits (cond t None o) bs ≡ Some n → (t ≡ false) × (digits o bs ≡ Some n)
-chosen true o bs n h = absurd (some-not-none n h)
+chosen true o bs n h = absurd (some_not_none n h)
 chosen false o bs n h = (refl, h)
 
 read_is : (bs : List ℕ) (v n : ℕ) → v ≤ most → digits (Some v) bs ≡ Some n → (AllDigits bs × (n ≡ value_of v bs)) × (n ≤ most)
@@ -55,7 +55,7 @@ unpadded : (w : List ℕ) (n : ℕ) → cond (padded w) None (digits (Some 0) w)
 unpadded w n h = go (padded w) refl h
   where
     go : (t : Bool) → padded w ≡ t → cond t None (digits (Some 0) w) ≡ Some n → (padded w ≡ false) × (digits (Some 0) w ≡ Some n)
-    go true is k = absurd (some-not-none n k)
+    go true is k = absurd (some_not_none n k)
     go false is k = (is, k)
 
 needed : (w : List ℕ) → padded w ≡ false → (0 < length w) × (get_or w 0 0 ≡ 48 → length w ≡ 1)
@@ -63,10 +63,10 @@ needed [] h = absurd (clash (sym h))
 needed (b ∷ []) h = (omega arith, λ _. refl)
 needed (b ∷ c ∷ bs) h = (omega arith, λ is. absurd (eqb-false b 48 h is))
 
-unpadded-back : (w : List ℕ) → 0 < length w → (get_or w 0 0 ≡ 48 → length w ≡ 1) → padded w ≡ false
-unpadded-back [] some one = absurd (omega arith)
-unpadded-back (b ∷ []) some one = refl
-unpadded-back (b ∷ c ∷ bs) some one = ne_eqb b 48 (λ is. let l = one is in omega (arith, l))
+unpadded_back : (w : List ℕ) → 0 < length w → (get_or w 0 0 ≡ 48 → length w ≡ 1) → padded w ≡ false
+unpadded_back [] some one = absurd (omega arith)
+unpadded_back (b ∷ []) some one = refl
+unpadded_back (b ∷ c ∷ bs) some one = ne_eqb b 48 (λ is. let l = one is in omega (arith, l))
 
 first_of : (n : ℕ) → n < 2 ^ 64 → get_or (decimal n) 0 0 ≡ 48 → length (decimal n) ≡ 1
 first_of n fits is = elim (cases_eq n 0) [ inl z ↦ nought z | inr nz ↦ absurd (let l = first_decimal n (omega arith) fits in omega (arith, l)) ]
@@ -85,21 +85,21 @@ forth w n h =
     let d : decimal (value_of 0 w) ≡ w = decimal-digits_value own w r.0.0 q.0 q.1 small in
     (sym d ∙ ap decimal v, le)
 
-pub number-back : (n : ℕ) → n ≤ most → number_of (decimal n) ≡ Some n
-number-back n le =
+pub number_back : (n : ℕ) → n ≤ most → number_of (decimal n) ≡ Some n
+number_back n le =
     let fits : n < 2 ^ 64 = omega arith in
     let v : value_of 0 (decimal n) ≡ n = digits_value-decimal own n fits in
-    let p : padded (decimal n) ≡ false = unpadded-back (decimal n) (decimal_nonempty n fits) (first_of n fits) in
+    let p : padded (decimal n) ≡ false = unpadded_back (decimal n) (decimal_nonempty n fits) (first_of n fits) in
     let l : value_of 0 (decimal n) ≤ most = omega (arith, v) in
     rw p (reads (decimal n) 0 (digits_decimal own n fits) l ∙ ap Some v)
 
 pub number_is : NumberIs
-number_is w n = (forth w n, λ le is. ap number_of is ∙ number-back n le)
+number_is w n = (forth w n, λ le is. ap number_of is ∙ number_back n le)
 
 -- digits are neither spaces nor line feeds
-digits-lack : (e : ℕ) (bs : List ℕ) → e < 48 → AllDigits bs → lacks e bs ≡ true
-digits-lack e [] l d = refl
-digits-lack e (b ∷ bs) l ((low, high), d) = and_from (not (eqb b e)) (lacks e bs) (not_from_false (eqb b e) (ne_eqb b e (omega arith))) (digits-lack e bs l d)
+digits_lack : (e : ℕ) (bs : List ℕ) → e < 48 → AllDigits bs → lacks e bs ≡ true
+digits_lack e [] l d = refl
+digits_lack e (b ∷ bs) l ((low, high), d) = and_from (not (eqb b e)) (lacks e bs) (not_from_false (eqb b e) (ne_eqb b e (omega arith))) (digits_lack e bs l d)
 
-pub decimal-lacks : (e n : ℕ) → e < 48 → n ≤ most → lacks e (decimal n) ≡ true
-decimal-lacks e n l le = digits-lack e (decimal n) l (digits_decimal own n (omega arith))
+pub decimal_lacks : (e n : ℕ) → e < 48 → n ≤ most → lacks e (decimal n) ≡ true
+decimal_lacks e n l le = digits_lack e (decimal n) l (digits_decimal own n (omega arith))

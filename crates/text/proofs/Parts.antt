@@ -10,9 +10,9 @@ pub digits_step : (w : List ℕ) (v i : ℕ) (o : Option ℕ) → i < length w �
 digits_step w v i o lt inv h =
     ap (λ p. digits p (drop (i + 1) w)) h ∙ (sym (at_drop_more (digits (Some v)) w i 0 lt) ∙ inv)
 
-pub digits-end : (w : List ℕ) (v i : ℕ) → length w ≤ i →
+pub digits_end : (w : List ℕ) (v i : ℕ) → length w ≤ i →
     digits (Some v) (drop i w) ≡ digits (Some 0) w → Some v ≡ digits (Some 0) w
-digits-end w v i le inv = sym (at_drop_all (digits (Some v)) w i le) ∙ inv
+digits_end w v i le inv = sym (at_drop_all (digits (Some v)) w i le) ∙ inv
 
 pub before_here : (bs : List ℕ) (e i : ℕ) → i < length bs → i + before e (drop i bs) ≡ before e bs → get_or bs i 0 ≡ e →
     i ≡ before e bs
@@ -30,8 +30,8 @@ before_more bs e i lt inv g =
     let z : before e (drop i bs) ≡ suc (before e (drop (i + 1) bs)) = rw h at s in
     omega (arith, inv, z)
 
-pub before-end : (bs : List ℕ) (e i : ℕ) → length bs ≤ i → i ≤ length bs → i + before e (drop i bs) ≡ before e bs → length bs ≡ before e bs
-before-end bs e i le ge inv =
+pub before_end : (bs : List ℕ) (e i : ℕ) → length bs ≤ i → i ≤ length bs → i + before e (drop i bs) ≡ before e bs → length bs ≡ before e bs
+before_end bs e i le ge inv =
     let z : before e (drop i bs) ≡ 0 = at_drop_all (before e) bs i le in omega (arith, inv, z)
 
 -- where a separator stands, the first part ends there
@@ -56,8 +56,8 @@ parts_last e b base bs h = go (eqb b e) refl
     go true is = absurd (let z : 0 ≡ suc (length bs) = rw is at h in omega (arith, z))
     go false is = rw is refl
 
-pub rest-last : (e b : ℕ) (bs : List ℕ) → before e (b ∷ bs) ≡ length (b ∷ bs) → before e bs ≡ length bs
-rest-last e b bs h = go (eqb b e) refl
+pub rest_last : (e b : ℕ) (bs : List ℕ) → before e (b ∷ bs) ≡ length (b ∷ bs) → before e bs ≡ length bs
+rest_last e b bs h = go (eqb b e) refl
   where
     go : (t : Bool) → eqb b e ≡ t → before e bs ≡ length bs
     go true is = absurd (let z : 0 ≡ suc (length bs) = rw is at h in omega (arith, z))
@@ -65,11 +65,11 @@ rest-last e b bs h = go (eqb b e) refl
 
 pub words_last : (bs : List ℕ) → before 32 bs ≡ length bs → words_of bs ≡ bs ∷ []
 words_last [] h = refl
-words_last (b ∷ bs) h = sym (parts_last 32 b ([] ∷ []) bs h) ∙ ap (onto b) (words_last bs (rest-last 32 b bs h))
+words_last (b ∷ bs) h = sym (parts_last 32 b ([] ∷ []) bs h) ∙ ap (onto b) (words_last bs (rest_last 32 b bs h))
 
-pub lines-last : (b : ℕ) (bs : List ℕ) → before 10 (b ∷ bs) ≡ length (b ∷ bs) → lines_of (b ∷ bs) ≡ (b ∷ bs) ∷ []
-lines-last b [] h = sym (parts_last 10 b [] [] h)
-lines-last b (x ∷ bs) h = sym (parts_last 10 b [] (x ∷ bs) h) ∙ ap (onto b) (lines-last x bs (rest-last 10 b (x ∷ bs) h))
+pub lines_last : (b : ℕ) (bs : List ℕ) → before 10 (b ∷ bs) ≡ length (b ∷ bs) → lines_of (b ∷ bs) ≡ (b ∷ bs) ∷ []
+lines_last b [] h = sym (parts_last 10 b [] [] h)
+lines_last b (x ∷ bs) h = sym (parts_last 10 b [] (x ∷ bs) h) ∙ ap (onto b) (lines_last x bs (rest_last 10 b (x ∷ bs) h))
 
 -- the same as code has it: n bytes come before the separator
 pub parts_cut : (e n : ℕ) (base : List (List ℕ)) (bs : List ℕ) → n ≡ before e bs → n ≤ length bs → (n ≡ length bs → ⊥) →
@@ -86,18 +86,18 @@ pub lines_end : (n : ℕ) (bs : List ℕ) → n ≡ before 10 bs → n ≡ lengt
 lines_end n [] is all h = absurd (omega (arith, h))
 lines_end n (b ∷ bs) is all h =
     let d : take (length (b ∷ bs) - n) (drop n (b ∷ bs)) ≡ [] = take_rest (b ∷ bs) n ∙ drop_all n (b ∷ bs) (omega (arith, all)) in
-    rw d (lines-last b bs (sym is ∙ all))
+    rw d (lines_last b bs (sym is ∙ all))
 
 pub shorter : (bs : List ℕ) (n : ℕ) → 0 < n → 0 < length bs → length (take (length bs - n) (drop n bs)) < length bs
 shorter bs n p h = rw (take_rest bs n, length-drop n bs) (omega (arith, p, h))
 
 -- whether a text is empty
-pub none-byte : (bs : List ℕ) → true ≡ eqb (length bs) 0 → length bs ≡ 0
-none-byte bs h = eqb-true (length bs) 0 (sym h)
+pub none_byte : (bs : List ℕ) → true ≡ eqb (length bs) 0 → length bs ≡ 0
+none_byte bs h = eqb-true (length bs) 0 (sym h)
 
 pub lines_none : (bs : List ℕ) → true ≡ eqb (length bs) 0 → lines_of bs ≡ []
 lines_none [] h = refl
-lines_none (b ∷ bs) h = absurd (let z = none-byte (b ∷ bs) h in omega (arith, z))
+lines_none (b ∷ bs) h = absurd (let z = none_byte (b ∷ bs) h in omega (arith, z))
 
 pub some_byte : (bs : List ℕ) → false ≡ eqb (length bs) 0 → 0 < length bs
 some_byte bs h = let z = eqb-false (length bs) 0 (sym h) in omega (arith, z)

@@ -36,30 +36,30 @@ module _ {A : Type 0} where
     | inr rest ↦ lookup-word key rows keyed w a rest
   ]
 
-pub mapped-from : {A B : Type 0} (f : A → B) (o : Option A) (b : B) → option_map f o ≡ Some b → (a : A) × (o ≡ Some a) × (f a ≡ b)
-mapped-from f None b h = absurd (not_some b h)
-mapped-from f (Some a) b h = (a, refl, some_same h)
+pub mapped_from : {A B : Type 0} (f : A → B) (o : Option A) (b : B) → option_map f o ≡ Some b → (a : A) × (o ≡ Some a) × (f a ≡ b)
+mapped_from f None b h = absurd (not_some b h)
+mapped_from f (Some a) b h = (a, refl, some_same h)
 
 pub none_is : (ws : List (List ℕ)) → none_of ws ≡ true → ws ≡ []
 none_is [] h = refl
 none_is (w ∷ ws) h = absurd (clash h)
 
-pub one-is : (ws : List (List ℕ)) (n : ℕ) → one_of ws ≡ Some n → (ws ≡ decimal n ∷ []) × (n ≤ most)
-one-is [] n h = absurd (not_some n h)
-one-is (w ∷ ws) n h =
+pub one_is : (ws : List (List ℕ)) (n : ℕ) → one_of ws ≡ Some n → (ws ≡ decimal n ∷ []) × (n ≤ most)
+one_is [] n h = absurd (not_some n h)
+one_is (w ∷ ws) n h =
     let p = only-way (none_of ws) (number_of w) n h in
     let q = (number_is w n).0 p.1 in
     (ap (λ x. x ∷ ws) q.0 ∙ ap (λ x. decimal n ∷ x) (none_is ws p.0), q.1)
 
-both-from : (a b : Option ℕ) (p : ℕ × ℕ) → both a b ≡ Some p → (a ≡ Some p.0) × (b ≡ Some p.1)
-both-from None b p h = absurd (not_some p h)
-both-from (Some a) None p h = absurd (not_some p h)
-both-from (Some a) (Some b) p h = let e : (a, b) ≡ p = some_same h in (ap (λ q. Some q.0) e, ap (λ q. Some q.1) e)
+both_from : (a b : Option ℕ) (p : ℕ × ℕ) → both a b ≡ Some p → (a ≡ Some p.0) × (b ≡ Some p.1)
+both_from None b p h = absurd (not_some p h)
+both_from (Some a) None p h = absurd (not_some p h)
+both_from (Some a) (Some b) p h = let e : (a, b) ≡ p = some_same h in (ap (λ q. Some q.0) e, ap (λ q. Some q.1) e)
 
 pub two_is : (ws : List (List ℕ)) (p : ℕ × ℕ) → two_of ws ≡ Some p → (ws ≡ decimal p.0 ∷ decimal p.1 ∷ []) × ((p.0 ≤ most) × (p.1 ≤ most))
 two_is [] p h = absurd (not_some p h)
 two_is (w ∷ ws) p h =
-    let q = both-from (number_of w) (one_of ws) p h in
+    let q = both_from (number_of w) (one_of ws) p h in
     let a = (number_is w p.0).0 q.0 in
-    let b = one-is ws p.1 q.1 in
+    let b = one_is ws p.1 q.1 in
     (ap (λ x. x ∷ ws) a.0 ∙ ap (λ x. decimal p.0 ∷ x) b.0, (a.1, b.1))

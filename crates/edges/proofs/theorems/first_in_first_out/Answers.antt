@@ -1,5 +1,5 @@
-use Rattle.edges.proofs.Order.{first-in-first-out}
+use Rattle.edges.proofs.Order.{first_in_first_out_lem}
 use Rattle.edges.proofs.theorems.first_in_first_out.Goals as goal
 
 pub returns : goal.returns
-returns c = first-in-first-out
+returns c = first_in_first_out_lem

@@ -1,5 +1,5 @@
-use Rattle.items.proofs.Written.{read-was-written}
+use Rattle.items.proofs.Written.{read_was_written_lem}
 use Rattle.items.proofs.theorems.read_was_written.Goals as goal
 
 pub returns : goal.returns
-returns c = read-was-written
+returns c = read_was_written_lem

@@ -1,5 +1,5 @@
-use Rattle.journals.proofs.Growth.{item-stays}
+use Rattle.journals.proofs.Growth.{item_stays_lem}
 use Rattle.journals.proofs.theorems.item_stays.Goals as goal
 
 pub returns : goal.returns
-returns c = item-stays
+returns c = item_stays_lem

@@ -1,5 +1,5 @@
-use Rattle.model.proofs.Proper.{proper-is}
+use Rattle.model.proofs.Proper.{proper_is_lem}
 use Rattle.model.proofs.theorems.proper_is.Goals as goal
 
 pub returns : goal.returns
-returns c = proper-is
+returns c = proper_is_lem

@@ -1,8 +1,8 @@
-use Rattle.text.proofs.Characters.{utf8-yes, utf8-no}
+use Rattle.text.proofs.Characters.{utf8_yes, utf8_no}
 use Rattle.text.proofs.name.is_utf8.Goals as goal
 
 pub returns-in-Ok : goal.returns-in-Ok
-returns-in-Ok c = utf8-yes c.args.word.now c.in-Ok.ensures.cases.1
+returns-in-Ok c = utf8_yes c.args.word.now c.in-Ok.ensures.cases.1
 
 pub returns-in-Err : goal.returns-in-Err
-returns-in-Err c = utf8-no c.args.word.now c.in-Err.ensures.cases.0
+returns-in-Err c = utf8_no c.args.word.now c.in-Err.ensures.cases.0

@@ -1,5 +1,5 @@
-use Rattle.text.proofs.Joins.{words-join}
+use Rattle.text.proofs.Joins.{words_join_lem}
 use Rattle.text.proofs.theorems.words_join.Goals as goal
 
 pub returns : goal.returns
-returns c = words-join
+returns c = words_join_lem

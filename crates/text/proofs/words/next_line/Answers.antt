@@ -1,10 +1,10 @@
 use Rattle.std.proofs.Common.{◌+◌, ◌<◌, [], length, arith}
-use Rattle.text.proofs.Parts.{parts_cut, lines_end, lines_none, some_byte, none-byte, shorter}
+use Rattle.text.proofs.Parts.{parts_cut, lines_end, lines_none, some_byte, none_byte, shorter}
 use Rattle.text.proofs.words.next_line.Goals as goal
 
 pub returns-then-is_empty : goal.returns-then-is_empty
 returns-then-is_empty c =
-    record { is = lines_none c.args.text.now c.if-is_empty.ensures; shorter = none-byte c.args.text.now c.if-is_empty.ensures }
+    record { is = lines_none c.args.text.now c.if-is_empty.ensures; shorter = none_byte c.args.text.now c.if-is_empty.ensures }
 
 pub returns-then-n-text : goal.returns-then-n-text
 returns-then-n-text c =

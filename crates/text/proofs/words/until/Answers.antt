@@ -1,5 +1,5 @@
 use Rattle.std.proofs.Common.{arith}
-use Rattle.text.proofs.Parts.{before_here, before_more, before-end}
+use Rattle.text.proofs.Parts.{before_here, before_more, before_end}
 use Rattle.text.proofs.words.until.Goals as goal
 
 pub returns-then-byte-end : goal.returns-then-byte-end
@@ -11,4 +11,4 @@ loop-i-preserved c = before_more _ _ c.loop-i.i c.loop-i-test.true c.loop-i.inva
 
 pub returns : goal.returns
 returns c =
-    record { is = before-end _ _ _ c.loop-i-test.false c.loop-i.auto.i-end c.loop-i.invariant; within = omega arith }
+    record { is = before_end _ _ _ c.loop-i-test.false c.loop-i.auto.i-end c.loop-i.invariant; within = omega arith }

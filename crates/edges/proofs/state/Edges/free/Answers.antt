@@ -3,7 +3,7 @@ use Rattle.std.proofs.lemmas.Result.{err_from_is_err_and}
 use Rattle.std.proofs.lemmas.List.{get_or_default}
 use Rattle.edges.specs.declared.head.Head.{Head}
 use Rattle.edges.specs.Held.{nobody}
-use Rattle.edges.proofs.Numbered.{asked_is, asked-not}
+use Rattle.edges.proofs.Numbered.{asked_is, asked_not}
 use Rattle.edges.proofs.state.Edges.free.Goals as goal
 
 pub returns-in_err-ask : goal.returns-in_err-ask
@@ -11,7 +11,7 @@ returns-in_err-ask c =
     let p = err_from_is_err_and c.from_residual.result c.from_residual.ensures.1 in
     rw (p.1, p.2)
     (record {
-      place = asked-not c.args.words.now c.args.self.now c.args.e _ _ c.in_err-ask.ensures;
+      place = asked_not c.args.words.now c.args.self.now c.args.e _ _ c.in_err-ask.ensures;
       within = tt;
     })
 

@@ -1,16 +1,16 @@
 use Rattle.std.proofs.Common.{◌≡◌, ℕ, is_err, sym, ap, ◌∙◌, arith}
 use Rattle.journals.proofs.Growth.{grew_then}
-use Rattle.journals.proofs.Standing.{held-short}
+use Rattle.journals.proofs.Standing.{held_short}
 use Rattle.journals.proofs.reader.Reader.fill_up.Goals as goal
 
 pub fill-requires : goal.fill-requires
 fill-requires g c =
-    let s = c.loop-self.self in held-short s.start s.end s.buffer.items s.inside.1 (sym c.is_short.ensures ∙ c.loop-self-test.true)
+    let s = c.loop-self.self in held_short s.start s.end s.buffer.items s.inside.1 (sym c.is_short.ensures ∙ c.loop-self-test.true)
 
 pub loop-self-smaller : goal.loop-self-smaller
 loop-self-smaller g c =
     let s = c.loop-self.self in
-    let h = held-short s.start s.end s.buffer.items s.inside.1 (sym c.is_short.ensures ∙ c.loop-self-test.true) in
+    let h = held_short s.start s.end s.buffer.items s.inside.1 (sym c.is_short.ensures ∙ c.loop-self-test.true) in
     let m = c.in-Ok.ensures.more in
     omega arith
 
