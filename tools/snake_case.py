@@ -15,7 +15,7 @@ import sys
 
 DECLARED = re.compile(r"^(?:(?:abbrev|unfoldable) )?(?:pub )?([a-z][\w-]*)(?: \(.*\)| \{.*\})? : ")
 PART = re.compile(r"^  (?:pub )?([a-z]\w*) : ")
-JOINT = re.compile(r"(?<=[a-z0-9])(?=[A-Z])|-")
+JOINT = re.compile(r"(?<=[a-z0-9])(?=[A-Z])|(?<=[A-Z])(?=[A-Z][a-z])|-")
 
 
 def files():

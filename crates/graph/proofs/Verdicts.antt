@@ -9,7 +9,7 @@ use Rattle.graph.specs.Line.{line_of}
 use Rattle.graph.specs.Draft.{Shape, Drafted, complete, bad_line, topology, bare, room_for, added_to, stepped, draft_from, drafted}
 use Rattle.graph.specs.Faults.{worker_faults, fault_of}
 use Rattle.graph.specs.Verdict.{Verdict, graph, refused, judged, judged_draft, verdict}
-use Rattle.graph.specs.Applies.{said_with, said_from, Unread, not_aline, too_many, no_worker, Faulty, worker, edge, said, Applies, one, two, LowestWins, ReadIsSaid}
+use Rattle.graph.specs.Applies.{said_with, said_from, Unread, not_a_line, too_many, no_worker, Faulty, worker, edge, said, Applies, one, two, LowestWins, ReadIsSaid}
 use Rattle.graph.proofs.Least.{LeastOf, least_like, Fault, lowest-least}
 
 -- what a draft comes to: the first line that is none of a graph, or all that was said
@@ -18,7 +18,7 @@ Drawn n s ls (bad_line k) = LeastOf (Unread n s ls) (Some k)
 Drawn n s ls (complete t) = LeastOf (Unread n s ls) None × (said_from n s ls ≡ t)
 
 not_before : (n : ℕ) (s : Shape) (ls : List (List ℕ)) (m : ℕ) → Unread n s ls m → n ≤ m
-not_before n s ls m (not_aline i l is no_line) = omega arith
+not_before n s ls m (not_a_line i l is no_line) = omega arith
 not_before n s ls m (too_many i x l is here full) = omega arith
 not_before n s ls m (no_worker is none) = omega arith
 
@@ -30,7 +30,7 @@ drawn_end : (n : ℕ) (s : Shape) → Drawn n s [] (cond (eqb (length s.kinds) 0
 drawn_end n s = go (eqb (length s.kinds) 0) refl
   where
     absent : (length s.kinds ≡ 0 → ⊥) → (m : ℕ) → Unread n s [] m → ⊥
-    absent some m (not_aline i l is no_line) = omega arith
+    absent some m (not_a_line i l is no_line) = omega arith
     absent some m (too_many i x l is here full) = omega arith
     absent some m (no_worker is none) = some none
 
@@ -47,13 +47,13 @@ module _ (n : ℕ) (s : Shape) (l : List ℕ) (ls : List (List ℕ)) (x : Line) 
   said-next xs = ap (λ o. said_from (n + 1) (said_with s n o) xs) here
 
   later : (m : ℕ) → Unread (n + 1) next ls m → Unread n s (l ∷ ls) m
-  later m (not_aline i b is no_line) = not_aline (suc i) (omega arith) (omega arith) no_line
+  later m (not_a_line i b is no_line) = not_a_line (suc i) (omega arith) (omega arith) no_line
   later m (too_many i y b is there full) = too_many (suc i) y (omega arith) (omega arith) there (ap (λ t. room_for t y) (said-next (take i ls)) ∙ full)
   later m (no_worker is none) = no_worker (omega arith) (ap (λ t. length t.kinds) (said-next ls) ∙ none)
 
   sooner : room_for s x ≡ true → (m : ℕ) → Unread n s (l ∷ ls) m → Unread (n + 1) next ls m
-  sooner room m (not_aline zero b is no_line) = absurd (none_some (line_of (words_of l)) x no_line here)
-  sooner room m (not_aline (suc i) b is no_line) = not_aline i (omega arith) (omega arith) no_line
+  sooner room m (not_a_line zero b is no_line) = absurd (none_some (line_of (words_of l)) x no_line here)
+  sooner room m (not_a_line (suc i) b is no_line) = not_a_line i (omega arith) (omega arith) no_line
   sooner room m (too_many zero y b is there full) = absurd (clash (sym full ∙ (ap (room_for s) same ∙ room)))
     where
       same : y ≡ x
@@ -67,7 +67,7 @@ module _ (n : ℕ) (s : Shape) (l : List ℕ) (ls : List (List ℕ)) (x : Line) 
 
 drawn_line : (n : ℕ) (s : Shape) (l : List ℕ) (ls : List (List ℕ)) (o : Option Line) → line_of (words_of l) ≡ o →
     ((x : Line) → Drawn (n + 1) (added_to s n x) ls (draft_from (n + 1) (added_to s n x) ls)) → Drawn n s (l ∷ ls) (stepped n s o (λ t. draft_from (n + 1) t ls))
-drawn_line n s l ls None here ih = (not_aline zero (omega arith) (sym (add-zero n)) here, not_before n s (l ∷ ls))
+drawn_line n s l ls None here ih = (not_a_line zero (omega arith) (sym (add-zero n)) here, not_before n s (l ∷ ls))
 drawn_line n s l ls (Some x) here ih = go (room_for s x) refl
   where
     go : (t : Bool) → room_for s x ≡ t → Drawn n s (l ∷ ls) (cond t (draft_from (n + 1) (added_to s n x) ls) (bad_line n))

@@ -19,7 +19,7 @@ said_from n s (l ∷ ls) = said_from (n + 1) (said_with s n (line_of (words_of l
 
 -- 1 holds of line k: it is no line of a graph; it names one worker or edge too many; it is the line after the last and no worker was named
 pub data Unread (n : ℕ) (s : Shape) (ls : List (List ℕ)) (k : ℕ) : Type 0 where
-  not_aline : (i : ℕ) → i < length ls → k ≡ n + i → line_of (words_of (slice_index_or ls i [])) ≡ None → Unread n s ls k
+  not_a_line : (i : ℕ) → i < length ls → k ≡ n + i → line_of (words_of (slice_index_or ls i [])) ≡ None → Unread n s ls k
   too_many : (i : ℕ) (said : Line) → i < length ls → k ≡ n + i → line_of (words_of (slice_index_or ls i [])) ≡ Some said → room_for (said_from n s (take i ls)) said ≡ false → Unread n s ls k
   no_worker : k ≡ n + length ls → length (said_from n s ls).kinds ≡ 0 → Unread n s ls k
 
