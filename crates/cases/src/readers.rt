@@ -120,15 +120,16 @@ fn over(rt: &HostRuntime, bytes: &[u8]) -> Result<Reader<Memory>, AllocError> {
     Reader::new(rt.alloc(), Memory::new(bytes))
 }
 
-// The first items come, so many, and then no more, also when asked again; `of` says of which journal.
-fn gives(rt: &impl Abort, reader: &mut Reader<Memory>, count: u64, stop: u8, of: usize) {
+// The first items come, so many, and then no more, also when asked again; `of` says of which journal: how much of
+// JOURNAL it begins with, and which byte was put in there.
+fn gives(rt: &impl Abort, reader: &mut Reader<Memory>, count: u64, stop: u8, of: (usize, u8)) {
     for i in 0..count {
-        assert_eq!(rt; reader.number(), i, "{} of {}", i, of);
-        assert_eq!(rt; told(reader.next()), Ok(item(i)), "{} of {}", i, of);
+        assert_eq!(rt; reader.number(), i, "{} of {:?}", i, of);
+        assert_eq!(rt; told(reader.next()), Ok(item(i)), "{} of {:?}", i, of);
     }
     for _ in 0..2 {
-        assert_eq!(rt; told(reader.next()), Err(stop), "{} of {}", count, of);
-        assert_eq!(rt; reader.number(), count, "{} of {}", count, of);
+        assert_eq!(rt; told(reader.next()), Err(stop), "{} of {:?}", count, of);
+        assert_eq!(rt; reader.number(), count, "{} of {:?}", count, of);
     }
 }
 
@@ -136,7 +137,7 @@ fn gives(rt: &impl Abort, reader: &mut Reader<Memory>, count: u64, stop: u8, of:
 fn no_bytes(rt: HostRuntime) -> Result<(), Fail> {
     let mut reader = over(&rt, &[])?;
     assert_eq!(rt; reader.number(), 0);
-    gives(&rt, &mut reader, 0, NOT_YET, 0);
+    gives(&rt, &mut reader, 0, NOT_YET, (0, 0));
     Ok(())
 }
 
@@ -144,7 +145,7 @@ fn no_bytes(rt: HostRuntime) -> Result<(), Fail> {
 fn every_prefix(rt: HostRuntime) -> Result<(), Fail> {
     for len in 0..63 {
         let mut reader = over(&rt, &JOURNAL[0..len])?;
-        gives(&rt, &mut reader, whole(len), NOT_YET, len);
+        gives(&rt, &mut reader, whole(len), NOT_YET, (len, 0));
     }
     Ok(())
 }
@@ -156,7 +157,7 @@ fn grown(rt: HostRuntime) -> Result<(), Fail> {
         let mut memory = Memory::new(bytes);
         memory.grow(&JOURNAL[len..62])?;
         let mut reader = Reader::new(rt.alloc(), memory)?;
-        gives(&rt, &mut reader, 6, NOT_YET, len);
+        gives(&rt, &mut reader, 6, NOT_YET, (len, 0));
     }
     Ok(())
 }
@@ -177,7 +178,7 @@ fn unknown_behind_items(rt: HostRuntime) -> Result<(), Fail> {
     for (count, at) in [(0, 0), (1, 13), (2, 26), (3, 39), (4, 44), (5, 57), (6, 62)] {
         for kind in [0, 3, 255] {
             let mut reader = broken(&rt, at, kind)?;
-            gives(&rt, &mut reader, count, UNKNOWN, at);
+            gives(&rt, &mut reader, count, UNKNOWN, (at, kind));
         }
     }
     Ok(())
@@ -203,7 +204,7 @@ fn skipped(rt: HostRuntime) -> Result<(), Fail> {
     assert_eq!(rt; told(reader.next()), Err(NOT_YET), "to the end");
     assert_eq!(rt; told(reader.skip_to(7)), Err(NOT_YET), "beyond");
     assert_eq!(rt; told(reader.skip_to(0)), Ok(()));
-    gives(&rt, &mut reader, 6, NOT_YET, 62);
+    gives(&rt, &mut reader, 6, NOT_YET, (62, 0));
     Ok(())
 }
 
