@@ -13,3 +13,11 @@ mod readers;
 mod refusals;
 #[cfg(test)]
 mod words;
+
+#[cfg(test)]
+use items::{Item, Record};
+
+#[cfg(test)]
+fn record(key: u32, time: u32, amount: u32) -> Item {
+    Item::Record(Record { key, time, amount })
+}

@@ -1,5 +1,5 @@
 // Edges, and what is on them.
-use crate::words::record;
+use crate::record;
 use edges::{Edges, Fault};
 use items::Item;
 use std::process::Abort;

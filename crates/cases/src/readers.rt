@@ -1,5 +1,5 @@
 // Journals, written byte by byte.
-use crate::words::record;
+use crate::record;
 use items::{Item, Reading, Refusal, read_item};
 use journals::{Reader, Stop};
 use sources::{JournalFile, Memory};
@@ -102,8 +102,8 @@ fn item(number: u64) -> Item {
     }
 }
 
-// How many of its items are whole in its first bytes.
-fn whole(len: usize) -> u64 {
+// How many of its items are complete in its first bytes.
+fn complete(len: usize) -> u64 {
     match len {
         0..=12 => 0,
         13..=25 => 1,
@@ -145,7 +145,7 @@ fn no_bytes(rt: HostRuntime) -> Result<(), Fail> {
 fn every_prefix(rt: HostRuntime) -> Result<(), Fail> {
     for len in 0..63 {
         let mut reader = over(&rt, &JOURNAL[0..len])?;
-        gives(&rt, &mut reader, whole(len), NOT_YET, (len, 0));
+        gives(&rt, &mut reader, complete(len), NOT_YET, (len, 0));
     }
     Ok(())
 }

@@ -1,9 +1,6 @@
 // Items as words.
-use items::{Item, Record, Refusal};
-
-pub fn record(key: u32, time: u32, amount: u32) -> Item {
-    Item::Record(Record { key, time, amount })
-}
+use crate::record;
+use items::{Item, Refusal};
 
 const MOST: u32 = 4294967295;
 
