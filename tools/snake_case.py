@@ -42,6 +42,9 @@ def main():
                 found = DECLARED.match(line) or PART.match(line)
                 if found and JOINT.search(found.group(1)):
                     own.add(found.group(1))
+    if not own:
+        print("no such name is left")
+        return 0
     used = {}
     for path, text in texts.items():
         for word in re.findall(r"[\w'-]+", text):
