@@ -1,12 +1,14 @@
 -- What the lines of a graph make.
-use Rattle.std.specs.Prelude.{ℕ, ◌+◌, Bool, cond, List, [], ◌∷◌, ◌++◌, length, take, Some, None, Ok, Err, Option, Result, ◌==◌, nat_lt}
-use Rattle.text.specs.Words.{words_of, lines_of}
+use Rattle.std.specs.Prelude.{ℕ, ◌+◌, Bool, cond, List, [], ◌∷◌, ◌++◌, length, Some, None, Ok, Err, Option, Result, ◌==◌, nat_lt}
+use Rattle.text.specs.Words.{words_of, lines_of as text_lines}
 use Rattle.model.specs.declared.Kind.{Kind}
 use Rattle.model.specs.declared.Edge.{Edge}
 use Rattle.model.specs.Graph.{Topology, most_workers, most_edges}
 use Rattle.graph.specs.declared.line.Line.{Line}
 use Rattle.graph.specs.declared.line.Line.TheVariants as line
 use Rattle.graph.specs.declared.draft.Draft.{Draft}
+use Rattle.graph.specs.declared.draft.BadLine.{BadLine}
+use Rattle.graph.specs.Rows.{items_of, lines_of}
 use Rattle.graph.specs.Line.{line_of}
 
 -- workers and edges in the order of their lines, and the numbers of those lines
@@ -21,10 +23,10 @@ topology s = record { kinds = s.kinds; edges = s.edges }
 
 abbrev pub shape_of : Draft → Shape
 shape_of d = record {
-  kinds = take d.workers d.kinds;
-  edges = take d.edges d.ends;
-  worker_lines = take d.workers d.lines.workers;
-  edge_lines = take d.edges d.lines.edges;
+  kinds = items_of d.workers;
+  edges = items_of d.edges;
+  worker_lines = lines_of d.workers;
+  edge_lines = lines_of d.edges;
 }
 
 abbrev pub bare : Shape
@@ -43,9 +45,9 @@ pub data Drafted : Type 0 where
   complete : Shape → Drafted
   bad_line : ℕ → Drafted
 
-abbrev pub draft_of : Result Draft ℕ → Drafted
+abbrev pub draft_of : Result Draft BadLine → Drafted
 draft_of (Ok d) = complete (shape_of d)
-draft_of (Err n) = bad_line n
+draft_of (Err e) = bad_line e.0
 
 -- what line n says, added to what the lines before it made; more goes on with the lines after it
 abbrev pub stepped : ℕ → Shape → Option Line → (Shape → Drafted) → Drafted
@@ -58,4 +60,4 @@ draft_from n s [] = cond (length s.kinds == 0) (bad_line n) (complete s)
 draft_from n s (l ∷ ls) = stepped n s (line_of (words_of l)) (λ t. draft_from (n + 1) t ls)
 
 abbrev pub drafted : List ℕ → Drafted
-drafted text = draft_from 1 bare (lines_of text)
+drafted text = draft_from 1 bare (text_lines text)

@@ -1,4 +1,5 @@
 pub mod Line
+pub mod Rows
 pub mod Draft
 pub mod Faults
 pub mod Verdict

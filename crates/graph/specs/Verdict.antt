@@ -1,15 +1,17 @@
 -- What becomes of a graph's text.
-use Rattle.std.specs.Prelude.{◌≡◌, ℕ, ◌-◌, List, [], take, Some, None, Ok, Err, Option, Result, slice_index_or}
+use Rattle.std.specs.Prelude.{◌≡◌, ℕ, ◌-◌, List, [], Some, None, Ok, Err, Option, Result, slice_index_or}
 use Rattle.items.specs.Refusals.{number_of}
 use Rattle.text.specs.Words.{words_of, lines_of}
 use Rattle.model.specs.Graph.{Topology, Proper}
 use Rattle.graph.specs.declared.checked.Graph.{Graph}
-use Rattle.graph.specs.declared.reading.Refused.{Refused}
+use Rattle.graph.specs.declared.refused.Refused.{Refused}
+use Rattle.graph.specs.Rows.{items_of}
+use Rattle.graph.specs.Rows as rows
 use Rattle.graph.specs.Draft.{Shape, Drafted, complete, bad_line, topology, drafted}
 use Rattle.graph.specs.Faults.{fault_of}
 
 abbrev pub topology_of : Graph → Topology
-topology_of g = record { kinds = take g.workers g.kinds; edges = take g.edges g.ends }
+topology_of g = record { kinds = items_of g.workers; edges = items_of g.edges }
 
 -- a graph with the lines of its workers, or a number and a line
 pub data Verdict : Type 0 where
@@ -17,7 +19,7 @@ pub data Verdict : Type 0 where
   refused : (number line : ℕ) → Verdict
 
 abbrev pub verdict_of : Result Graph Refused → Verdict
-verdict_of (Ok g) = graph (topology_of g) (take g.workers g.lines)
+verdict_of (Ok g) = graph (topology_of g) (rows.lines_of g.workers)
 verdict_of (Err e) = refused (number_of e.refusal) e.line
 
 abbrev pub judged : Shape → Option ℕ → Verdict

@@ -11,37 +11,32 @@ impl Graph {
     pub fn kinds(&self) -> &[Kind]
         ensures { result.now ≡ (topology_of self.now).kinds }
     {
-        &self.kinds[0..self.workers]
+        self.workers.items()
     }
 
     // The ends of the edges, by number.
     pub fn ends(&self) -> &[Edge]
         ensures { result.now ≡ (topology_of self.now).edges }
     {
-        &self.ends[0..self.edges]
+        self.edges.items()
     }
 
     fn is_in_edge(&self, worker: u32, edge: u32) -> bool
         ensures { result ≡ addressed (topology_of self.now) (Call.Step worker edge) }
     {
-        if worker as usize >= self.kinds().len() {
-            return false;
-        }
-        let ends = self.ends();
-        if edge as usize >= ends.len() {
-            return false;
-        }
-        ends[edge as usize].to == worker
+        (worker as usize) < self.kinds().len()
+            && self
+                .ends()
+                .get(edge as usize)
+                .is_some_and(|ends| ends.to == worker)
     }
 
     fn is_source(&self, worker: u32) -> bool
         ensures { result ≡ addressed (topology_of self.now) (Call.Feed worker) }
     {
-        let kinds = self.kinds();
-        if worker as usize >= kinds.len() {
-            return false;
-        }
-        kinds[worker as usize].is_source()
+        self.kinds()
+            .get(worker as usize)
+            .is_some_and(|kind| kind.is_source())
     }
 
     // Whether a call names a worker that is there and, where it names an edge, one that reaches that worker.
@@ -52,8 +47,7 @@ impl Graph {
             Call::Step { worker, edge } => self.is_in_edge(worker, edge),
             Call::Feed { worker } => self.is_source(worker),
             Call::Checkpoint { worker } => (worker as usize) < self.kinds().len(),
-            Call::Commit { number: _ } => true,
-            Call::Crash => true,
+            Call::Commit { .. } | Call::Crash => true,
         }
     }
 }

@@ -1,18 +1,15 @@
 // A graph that keeps to all rules.
-ghost use Rattle.std.specs.Prelude.{◌≡◌, ◌≤◌, true, length, take};
+ghost use Rattle.std.specs.Prelude.{◌≡◌, true, take};
 ghost use Rattle.model.specs.Graph.{proper};
+ghost use Rattle.graph.specs.Rows.{items_of};
 
-use model::{Edge, Kind};
+use crate::rows::Rows;
+use model::{Edge, Kind, MOST_EDGES, MOST_WORKERS};
 
-// The workers by kind, the ends of each edge, and the line of each worker in the text that it was read from.
+// The kinds of its workers and the ends of its edges, each with its line in the text that it was read from.
 #[derive(Clone, Copy)]
 pub struct Graph {
-    pub kinds: [Kind; 32],
-    pub workers: usize,
-    pub ends: [Edge; 64],
-    pub edges: usize,
-    pub lines: [usize; 32],
-    ghost fits: { (workers ≤ 32) × (edges ≤ 64) },
-    ghost long: { (length kinds ≡ 32) × ((length ends ≡ 64) × (length lines ≡ 32)) },
-    ghost sound: { proper (record { kinds = take workers kinds; edges = take edges ends }) ≡ true },
+    pub workers: Rows<Kind, MOST_WORKERS>,
+    pub edges: Rows<Edge, MOST_EDGES>,
+    ghost sound: { proper (record { kinds = items_of workers; edges = items_of edges }) ≡ true },
 }

@@ -1,22 +1,60 @@
-// Workers and edges as the lines of a graph name them, with the lines' numbers.
-ghost use Rattle.std.specs.Prelude.{◌≡◌, ◌≤◌, length};
+// Workers and edges as the lines of a graph name them.
+ghost use Rattle.std.specs.Prelude.{◌≡◌, ℕ, true, false, MatchResult};
+ghost use Rattle.graph.specs.Draft.{shape_of, bare, room_for, added_to, draft_of, drafted};
 
-use model::{Edge, Kind};
-
-// The number of the line of each worker and each edge.
-#[derive(Clone, Copy)]
-pub struct Lines {
-    pub workers: [usize; 32],
-    pub edges: [usize; 64],
-}
+use crate::line::{Line, read_line};
+use crate::listing::Full;
+use crate::rows::Rows;
+use model::{Edge, Kind, MOST_EDGES, MOST_WORKERS};
+use text::next_line;
 
 #[derive(Clone, Copy)]
 pub struct Draft {
-    pub kinds: [Kind; 32],
-    pub workers: usize,
-    pub ends: [Edge; 64],
-    pub edges: usize,
-    pub lines: Lines,
-    ghost fits: { (workers ≤ 32) × (edges ≤ 64) },
-    ghost long: { ((length kinds ≡ 32) × (length ends ≡ 64)) × ((length lines.workers ≡ 32) × (length lines.edges ≡ 64)) },
+    pub workers: Rows<Kind, MOST_WORKERS>,
+    pub edges: Rows<Edge, MOST_EDGES>,
+}
+
+// The first line that is none of a graph, by its number.
+#[derive(Clone, Copy)]
+pub struct BadLine(pub usize);
+
+impl Draft {
+    fn new() -> Draft
+        ensures { shape_of result ≡ bare }
+    {
+        Draft {
+            workers: Rows::new(Kind::Source),
+            edges: Rows::new(Edge { from: 0, to: 0 }),
+        }
+    }
+
+    // Adds what a line says, if there is room.
+    fn add(&mut self, said: Line, line: usize) -> Result<(), Full>
+        ensures { MatchResult result
+            (λ _. (room_for (shape_of self.old) said ≡ true) × (shape_of self.new ≡ added_to (shape_of self.old) line said))
+            (λ _. (room_for (shape_of self.old) said ≡ false) × (self.new ≡ self.old)) }
+    {
+        match said {
+            Line::Worker(kind) => self.workers.push(kind, line),
+            Line::Edge(edge) => self.edges.push(edge, line),
+        }
+    }
+
+    pub fn read(text: &[u8]) -> Result<Draft, BadLine>
+        ensures { draft_of result ≡ drafted text.now }
+    {
+        let mut draft = Draft::new();
+        let mut rest = text;
+        let mut n: usize = 1;
+        while let Some((bytes, after)) = next_line(rest) {
+            let said = read_line(bytes).ok_or(BadLine(n))?;
+            draft.add(said, n).map_err(|_| BadLine(n))?;
+            rest = after;
+            n += 1;
+        }
+        if draft.workers.items().is_empty() {
+            return Err(BadLine(n));
+        }
+        Ok(draft)
+    }
 }

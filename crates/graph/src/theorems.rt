@@ -3,38 +3,26 @@ ghost use Rattle.graph.specs.Applies.{LowestWins, ReadIsSaid};
 ghost use Rattle.graph.specs.Verdict.{ReadIsProper};
 ghost use Rattle.graph.specs.Write.{LineIs, WorkersHaveLines, WriteRead};
 
-pub fn read_is_proper() -> u8
+pub fn read_is_proper()
     ensures { ReadIsProper }
-{
-    0
-}
+{}
 
-pub fn line_is() -> u8
+pub fn line_is()
     ensures { LineIs }
-{
-    0
-}
+{}
 
-pub fn workers_have_lines() -> u8
+pub fn workers_have_lines()
     ensures { WorkersHaveLines }
-{
-    0
-}
+{}
 
-pub fn write_read() -> u8
+pub fn write_read()
     ensures { WriteRead }
-{
-    0
-}
+{}
 
-pub fn lowest_wins() -> u8
+pub fn lowest_wins()
     ensures { LowestWins }
-{
-    0
-}
+{}
 
-pub fn read_is_said() -> u8
+pub fn read_is_said()
     ensures { ReadIsSaid }
-{
-    0
-}
+{}

@@ -1,7 +1,8 @@
 -- The test for a proper graph says what the rules say.
-use Rattle.std.proofs.Common.{◌≡◌, ℕ, zero, suc, ◌+◌, ◌<◌, ◌≤◌, Bool, true, false, not, ◌&&◌, ◌||◌, eqb, ltb, leb, ◌⊎◌, List, [], ◌∷◌, length, get_or, Decides, sym, refl, ap, ◌∙◌, subst, inl, inr, add-zero, zero-add, arith, le-leb, leb-true}
+use Rattle.std.proofs.Common.{◌≡◌, ℕ, zero, suc, ◌+◌, ◌<◌, ◌≤◌, Bool, true, not, ◌&&◌, ◌||◌, eqb, ltb, leb, ◌⊎◌, List, [], ◌∷◌, length, get_or, Decides, sym, refl, ap, subst, inl, inr, add-zero, zero-add, arith, le-leb, leb-true}
 use borrow.Author.Tests.{clash}
 use Rattle.std.proofs.lemmas.Bool.Decides.{Decides-eqb, Decides-ltb, Decides-and, Decides-or, Decides-not, Decides-like}
+use Rattle.std.specs.List.{list_any}
 use Rattle.model.specs.declared.Kind.{Kind}
 use Rattle.model.specs.declared.Kind.TheVariants.{Source, Keep, Scale, Group, Spread, Window, Sink}
 use Rattle.model.specs.declared.Edge.{Edge}
@@ -40,13 +41,16 @@ sink_is Spread = (λ h. absurd (clash h), λ h. ap is_sink h)
 sink_is (Window long) = (λ h. absurd (clash h), λ h. ap is_sink h)
 sink_is Sink = (λ _. refl, λ _. refl)
 
--- some edge has an end at w, by a test over the list
-module _ (F : List Edge → Bool) (f : Edge → ℕ) (w : ℕ) (F-[] : F [] ≡ false) (F-∷ : (x : Edge) (xs : List Edge) → F (x ∷ xs) ≡ (eqb (f x) w || F xs)) where
+-- some edge has an end at w
+module _ (f : Edge → ℕ) (w : ℕ) where
+  abbrev at_w : Edge → Bool
+  at_w x = eqb (f x) w
+
   abbrev Some : List Edge → Type 0
   Some es = (e : ℕ) × (e < length es) × (f (get_or es e no_edge) ≡ w)
 
-  some-none : Some [] → ⊥
-  some-none (e, l, is) = omega arith
+  some_none : Some [] → ⊥
+  some_none (e, l, is) = omega arith
 
   some_first : (x : Edge) (xs : List Edge) → Some (x ∷ xs) → (f x ≡ w) ⊎ Some xs
   some_first x xs (zero, l, is) = inl is
@@ -56,11 +60,11 @@ module _ (F : List Edge → Bool) (f : Edge → ℕ) (w : ℕ) (F-[] : F [] ≡ 
   some_back x xs (inl is) = (zero, omega arith, is)
   some_back x xs (inr (e, l, is)) = (suc e, omega arith, is)
 
-  pub some_is : (es : List Edge) → Decides (F es) (Some es)
-  some_is [] = (λ h. absurd (clash (sym F-[] ∙ h)), λ s. absurd (some-none s))
+  pub some_is : (es : List Edge) → Decides (list_any at_w es) (Some es)
+  some_is [] = (λ h. absurd (clash h), λ s. absurd (some_none s))
   some_is (x ∷ xs) =
-      let d : Decides (eqb (f x) w || F xs) ((f x ≡ w) ⊎ Some xs) = Decides-or (eqb (f x) w) (F xs) (Decides-eqb (f x) w) (some_is xs) in
-      (λ h. some_back x xs (d.0 (sym (F-∷ x xs) ∙ h)), λ s. F-∷ x xs ∙ d.1 (some_first x xs s))
+      Decides-like (at_w x || list_any at_w xs) (some_back x xs) (some_first x xs)
+      (Decides-or (at_w x) (list_any at_w xs) (Decides-eqb (f x) w) (some_is xs))
 
 abbrev WorkerProper : List Edge → ℕ → Kind → Type 0
 WorkerProper es w k =
@@ -72,8 +76,8 @@ worker_is : (es : List Edge) (w : ℕ) (k : Kind) → Decides (worker_proper es 
 worker_is es w k =
     Decides-and (in_range k) ((is_source k || reached w es) && (is_sink k || left w es)) (range_is k)
     (Decides-and (is_source k || reached w es) (is_sink k || left w es)
-    (Decides-or (is_source k) (reached w es) (source_is k) (some_is (reached w) (λ x. x.to) w refl (λ x xs. refl) es))
-    (Decides-or (is_sink k) (left w es) (sink_is k) (some_is (left w) (λ x. x.from) w refl (λ x xs. refl) es)))
+    (Decides-or (is_source k) (reached w es) (source_is k) (some_is (λ x. x.to) w es))
+    (Decides-or (is_sink k) (left w es) (sink_is k) (some_is (λ x. x.from) w es)))
 
 abbrev EdgeProper : List Kind → Edge → Type 0
 EdgeProper ks x =

@@ -1,5 +1,6 @@
 -- A graph of workers, and when it is a proper one.
 use Rattle.std.specs.Prelude.{◌≡◌, ℕ, ◌+◌, ◌<◌, ◌≤◌, Bool, true, false, not, ◌&&◌, ◌||◌, ◌⊎◌, List, [], ◌∷◌, length, Decides, ◌==◌, ◌≢◌, nat_le, nat_lt, slice_index_or}
+use Rattle.std.specs.List.{list_any, list_all}
 use Rattle.model.specs.declared.Kind.{Kind}
 use Rattle.model.specs.declared.Kind.TheVariants.{Source, Keep, Scale, Group, Spread, Window, Sink}
 use Rattle.model.specs.declared.Edge.{Edge}
@@ -53,12 +54,10 @@ in_range Sink = true
 
 -- some edge reaches w; some edge leaves w
 abbrev pub reached : ℕ → List Edge → Bool
-reached w [] = false
-reached w (x ∷ xs) = x.to == w || reached w xs
+reached w es = list_any (λ x. x.to == w) es
 
 abbrev pub left : ℕ → List Edge → Bool
-left w [] = false
-left w (x ∷ xs) = x.from == w || left w xs
+left w es = list_any (λ x. x.from == w) es
 
 -- a worker's numbers are in range, and it has the edges that it needs
 abbrev pub worker_proper : List Edge → ℕ → Kind → Bool
@@ -75,8 +74,7 @@ workers_proper es w [] = true
 workers_proper es w (k ∷ ks) = worker_proper es w k && workers_proper es (w + 1) ks
 
 abbrev pub edges_proper : List Kind → List Edge → Bool
-edges_proper ks [] = true
-edges_proper ks (x ∷ xs) = edge_proper ks x && edges_proper ks xs
+edges_proper ks es = list_all (edge_proper ks) es
 
 abbrev pub sized : Topology → Bool
 sized g = nat_lt 0 (length g.kinds) && (nat_le (length g.kinds) most_workers && nat_le (length g.edges) most_edges)

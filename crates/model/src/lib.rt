@@ -8,6 +8,11 @@ ghost use Rattle.model.specs.Graph.{in_range, is_source, is_sink};
 
 pub use theorems::proper_is;
 
+// The most workers of a graph, and the most edges.
+pub const MOST_WORKERS: usize = 32;
+
+pub const MOST_EDGES: usize = 64;
+
 // A worker's kind, with its numbers.
 #[derive(Clone, Copy, PartialEq, Eq, Debug, Drop)]
 pub enum Kind {
@@ -48,13 +53,10 @@ impl Kind {
         ensures { result ≡ in_range self }
     {
         match self {
-            Kind::Source => true,
+            Kind::Source | Kind::Spread | Kind::Sink => true,
             Kind::Keep { low, high } => low <= high,
-            Kind::Scale { times: _, by } => by > 0,
-            Kind::Group { by } => by > 0,
-            Kind::Spread => true,
+            Kind::Scale { by, .. } | Kind::Group { by } => by > 0,
             Kind::Window { length } => length > 0,
-            Kind::Sink => true,
         }
     }
 

@@ -1,0 +1,23 @@
+ghost use Rattle.std.specs.Prelude.{◌≡◌};
+ghost use Rattle.items.specs.declared.Refusal.TheVariants.{BadLine as OfLine};
+
+use crate::draft::BadLine;
+use items::Refusal;
+
+// Why a text is refused, and by which line.
+#[derive(Clone, Copy, PartialEq, Eq, Debug, Drop)]
+pub struct Refused {
+    pub refusal: Refusal,
+    pub line: usize,
+}
+
+impl From<BadLine> for Refused {
+    ghost from_gives = { λ bad r. r ≡ record { refusal = OfLine; line = bad.0 } };
+
+    fn from(bad: BadLine) -> Self {
+        Refused {
+            refusal: Refusal::BadLine,
+            line: bad.0,
+        }
+    }
+}
