@@ -6,10 +6,10 @@ use std::test::Fail;
 // 0 for done, the number of a refusal, 11 for what is shown and 12 for what is not built.
 fn answered(graph: &Graph, line: &[u8]) -> u8 {
     match answer_to(graph, line) {
-        Answer::Done => 0,
-        Answer::Refused(refusal) => refusal.number(),
-        Answer::Shown => 11,
-        Answer::NotBuilt => 12,
+        Ok(Answer::Done) => 0,
+        Ok(Answer::Shown) => 11,
+        Ok(Answer::NotBuilt) => 12,
+        Err(refusal) => refusal.number(),
     }
 }
 

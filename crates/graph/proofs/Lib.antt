@@ -1,4 +1,3 @@
-pub mod Room
 pub mod Lowest
 pub mod Sound
 pub mod Back

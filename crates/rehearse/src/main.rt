@@ -6,7 +6,7 @@ use items::Refusal;
 use scripts::{Answer, answer_to, fresh_text};
 use std::alloc::AllocError;
 use std::process::ExitCode;
-use std::{env, fs, io};
+use std::{env, fmt, fs, io};
 use text::next_line;
 
 // What ends a rehearsal with status 1, each with its line for standard error.
@@ -40,43 +40,44 @@ fn reason(refusal: Refusal) -> &'static str {
     }
 }
 
-impl Failure<'_> {
-    fn report(self, rt: &HostRuntime) -> io::Result<()> {
+impl fmt::Display for Failure<'_> {
+    fn fmt<W: fmt::Write>(&self, f: &mut fmt::Formatter<W>) -> fmt::Result {
         match self {
-            Failure::Unreadable(path, error) => eprintln!(rt; "rehearse: {path}: {error}"),
+            Failure::Unreadable(path, error) => write!(f, "{path}: {error}"),
             Failure::Refused(path, refused) => {
                 let number = refused.refusal.number();
                 let line = refused.line;
                 let why = reason(refused.refusal);
-                eprintln!(rt; "rehearse: {path} line {line}: refused by {number}: {why}")
+                write!(f, "{path} line {line}: refused by {number}: {why}")
             }
             Failure::NotBuilt(path, line) => {
-                eprintln!(rt;
-                    "rehearse: {path} line {line}: feed and cut of a source are not built yet"
-                )
+                write!(f, "{path} line {line}: feed and cut of a source are not built yet")
             }
-            Failure::Output(error) => eprintln!(rt; "rehearse: standard output: {error}"),
-            Failure::Memory => eprintln!(rt; "rehearse: out of memory"),
+            Failure::Output(error) => write!(f, "standard output: {error}"),
+            Failure::Memory => f.write_str("out of memory"),
         }
     }
 }
 
 fn load<'a>(rt: &HostRuntime, path: &'a str) -> Result<Vec<u8>, Failure<'a>> {
-    match fs::read(rt, path) {
-        Ok(bytes) => Ok(bytes),
-        Err(error) => Err(Failure::Unreadable(path, error)),
-    }
+    fs::read(rt, path).map_err(|error| Failure::Unreadable(path, error))
 }
 
-// The answer to one line; false where the script can't go on.
-fn answer(rt: &HostRuntime, graph: &Graph, line: &[u8]) -> Result<bool, Failure<'static>> {
+// Prints the answer to line n of a script.
+fn answer<'a>(
+    rt: &HostRuntime,
+    graph: &Graph,
+    path: &'a str,
+    n: usize,
+    line: &[u8],
+) -> Result<(), Failure<'a>> {
     match answer_to(graph, line) {
-        Answer::Done => println!(rt; "ok")?,
-        Answer::Shown => rt.print(fresh_text(rt.alloc(), graph)?)?,
-        Answer::Refused(refusal) => println!(rt; "{}", refusal.number())?,
-        Answer::NotBuilt => return Ok(false),
+        Ok(Answer::Done) => println!(rt; "ok")?,
+        Ok(Answer::Shown) => rt.print(fresh_text(rt.alloc(), graph)?)?,
+        Ok(Answer::NotBuilt) => return Err(Failure::NotBuilt(path, n)),
+        Err(refusal) => println!(rt; "{}", refusal.number())?,
     }
-    Ok(true)
+    Ok(())
 }
 
 fn carry_out<'a>(
@@ -88,9 +89,7 @@ fn carry_out<'a>(
     let mut rest = script;
     let mut n: usize = 1;
     while let Some((line, after)) = next_line(rest) {
-        if !answer(rt, graph, line)? {
-            return Err(Failure::NotBuilt(path, n));
-        }
+        answer(rt, graph, path, n, line)?;
         rest = after;
         n = n.saturating_add(1);
     }
@@ -132,7 +131,7 @@ fn run(rt: &HostRuntime) -> io::Result<ExitCode> {
     match rehearse(rt, graph.as_str(), script.as_str()) {
         Ok(()) => Ok(ExitCode::SUCCESS),
         Err(failure) => {
-            failure.report(rt)?;
+            eprintln!(rt; "rehearse: {failure}")?;
             Ok(ExitCode::FAILURE)
         }
     }

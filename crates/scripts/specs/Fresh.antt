@@ -1,5 +1,6 @@
 -- What a graph that has not begun answers: nothing is on its edges, and no worker has made a checkpoint.
-use Rattle.std.specs.Prelude.{ℕ, cond, List, Some, None, Option}
+use Rattle.std.specs.Prelude.{ℕ, cond, List, Some, None, Ok, Err, Option, Result}
+use Rattle.items.specs.declared.Refusal.{Refusal}
 use Rattle.items.specs.Refusals.{number_of}
 use Rattle.text.specs.Words.{words_of}
 use Rattle.model.specs.declared.Call.{Call}
@@ -19,11 +20,11 @@ pub data Said : Type 0 where
   refused : ℕ → Said
   would_change : Said
 
-abbrev pub said_of : Answer → Said
-said_of answer.Done = done
-said_of answer.Shown = shown
-said_of (answer.Refused r) = refused (number_of r)
-said_of answer.NotBuilt = would_change
+abbrev pub said_of : Result Answer Refusal → Said
+said_of (Ok answer.Done) = done
+said_of (Ok answer.Shown) = shown
+said_of (Ok answer.NotBuilt) = would_change
+said_of (Err r) = refused (number_of r)
 
 abbrev pub checkpoint_answer : Topology → ℕ → Said
 checkpoint_answer g w = cond (addressed g (Feed w)) would_change (refused 6)

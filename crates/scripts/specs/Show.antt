@@ -5,6 +5,11 @@ use Rattle.model.specs.declared.Kind.TheVariants.{Source, Keep, Scale, Group, Sp
 use Rattle.model.specs.declared.Edge.{Edge}
 use Rattle.model.specs.Graph.{Topology, is_source, is_sink}
 
+-- the texts of the items from number i on, one behind the other
+abbrev pub texts_from : {X : Type 0} → (text : ℕ → X → List ℕ) → ℕ → List X → List ℕ
+texts_from text i [] = []
+texts_from text i (x ∷ xs) = text i x ++ texts_from text (i + 1) xs
+
 abbrev pub kind_name : Kind → List ℕ
 kind_name Source = codes "source"
 kind_name (Keep low high) = codes "keep"
@@ -47,23 +52,20 @@ abbrev pub worker_text : List Edge → ℕ → Kind → List ℕ
 worker_text es w k = cond (is_source k) (source_text w) (reached_text es w k)
 
 abbrev pub workers_text : List Edge → ℕ → List Kind → List ℕ
-workers_text es w [] = []
-workers_text es w (k ∷ ks) = worker_text es w k ++ workers_text es (w + 1) ks
+workers_text es w ks = texts_from (worker_text es) w ks
 
 abbrev pub edge_text : ℕ → Edge → List ℕ
 edge_text e x = codes "edge " ++ (decimal e ++ (codes " " ++ (decimal x.from ++ (codes " " ++ (decimal x.to ++ codes " -\n")))))
 
 abbrev pub edges_text : ℕ → List Edge → List ℕ
-edges_text e [] = []
-edges_text e (x ∷ xs) = edge_text e x ++ edges_text (e + 1) xs
+edges_text e es = texts_from edge_text e es
 
 -- a length of 0 for each sink
 abbrev pub length_text : Kind → List ℕ
 length_text k = cond (is_sink k) (codes " 0") []
 
 abbrev pub lengths_text : List Kind → List ℕ
-lengths_text [] = []
-lengths_text (k ∷ ks) = length_text k ++ lengths_text ks
+lengths_text ks = texts_from (λ _. length_text) 0 ks
 
 abbrev pub joined_text : (workers edges lengths : List ℕ) → List ℕ
 joined_text workers edges lengths = workers ++ (edges ++ (codes "whole 0 published" ++ (lengths ++ codes "\n")))

@@ -8,48 +8,47 @@ use graph::Graph;
 use items::Refusal;
 use model::Call;
 
-#[derive(Clone, Copy)]
+// What becomes of a line that is not refused.
+#[derive(Clone, Copy, PartialEq, Eq, Debug)]
 pub enum Answer {
     Done,
     Shown,
-    Refused(Refusal),
     // the call would go through, and is not built yet
     NotBuilt,
 }
 
 // A source may make its checkpoint at any time; on another worker's edges no barrier has come.
-fn ask_checkpoint(graph: &Graph, worker: u32) -> Answer
+fn ask_checkpoint(graph: &Graph, worker: u32) -> Result<Answer, Refusal>
     ensures { said_of result ≡ checkpoint_answer (topology_of graph.now) worker }
 {
     if graph.addresses(Call::Feed { worker }) {
-        Answer::NotBuilt
+        Ok(Answer::NotBuilt)
     } else {
-        Answer::Refused(Refusal::NotAligned)
+        Err(Refusal::NotAligned)
     }
 }
 
-fn ask(graph: &Graph, call: Call) -> Answer
+fn ask(graph: &Graph, call: Call) -> Result<Answer, Refusal>
     ensures { said_of result ≡ call_answer (topology_of graph.now) call }
 {
     if !graph.addresses(call) {
-        return Answer::Refused(Refusal::NotThere);
+        return Err(Refusal::NotThere);
     }
     match call {
-        Call::Step { worker: _, edge: _ } => Answer::Refused(Refusal::NothingToTake),
-        Call::Feed { worker: _ } => Answer::NotBuilt,
+        Call::Step { .. } => Err(Refusal::NothingToTake),
+        Call::Feed { .. } => Ok(Answer::NotBuilt),
         Call::Checkpoint { worker } => ask_checkpoint(graph, worker),
-        Call::Commit { number: _ } => Answer::Refused(Refusal::NotCommittable),
-        Call::Crash => Answer::Done,
+        Call::Commit { .. } => Err(Refusal::NotCommittable),
+        Call::Crash => Ok(Answer::Done),
     }
 }
 
-// The answer of a graph that has not begun to a line of a script.
-pub fn answer_to(graph: &Graph, line: &[u8]) -> Answer
+// The answer of a graph that has not begun to a line of a script, or why the line is refused.
+pub fn answer_to(graph: &Graph, line: &[u8]) -> Result<Answer, Refusal>
     ensures { said_of result ≡ line_answer (topology_of graph.now) line.now }
 {
-    match read_command(line) {
-        None => Answer::Refused(Refusal::BadLine),
-        Some(Command::Show) => Answer::Shown,
-        Some(Command::Call(call)) => ask(graph, call),
+    match read_command(line).ok_or(Refusal::BadLine)? {
+        Command::Show => Ok(Answer::Shown),
+        Command::Call(call) => ask(graph, call),
     }
 }

@@ -1,7 +1,7 @@
 // What is shown of a graph that has not begun.
-ghost use Rattle.std.specs.Prelude.{◌≡◌, true, not, ◌&&◌, [], ◌++◌, IfOk, if◌then◌else◌, string_bytes, OnOk};
+ghost use Rattle.std.specs.Prelude.{◌≡◌, ℕ, true, List, IfOk, string_bytes};
 ghost use Rattle.graph.specs.Verdict.{topology_of};
-ghost use Rattle.scripts.specs.Show.{kind_name, kind_tail, zero, zeros, line_with, source_text, reached_text, worker_text, workers_text, edge_text, edges_text, length_text, lengths_text, joined_text, fresh_text};
+ghost use Rattle.scripts.specs.Show.{texts_from, kind_name, kind_tail, zeros, line_with, source_text, reached_text, worker_text, edge_text, length_text, joined_text, fresh_text};
 
 use graph::Graph;
 use model::{Edge, Kind};
@@ -12,11 +12,11 @@ fn kind_name(kind: Kind) -> &'static str
 {
     match kind {
         Kind::Source => "source",
-        Kind::Keep { low: _, high: _ } => "keep",
-        Kind::Scale { times: _, by: _ } => "scale",
-        Kind::Group { by: _ } => "group",
+        Kind::Keep { .. } => "keep",
+        Kind::Scale { .. } => "scale",
+        Kind::Group { .. } => "group",
         Kind::Spread => "spread",
-        Kind::Window { length: _ } => "window",
+        Kind::Window { .. } => "window",
         Kind::Sink => "sink",
     }
 }
@@ -26,40 +26,36 @@ fn kind_tail(kind: Kind) -> &'static str
     ensures { result.now ≡ kind_tail kind }
 {
     match kind {
-        Kind::Source => "",
-        Kind::Keep { low: _, high: _ } => "",
-        Kind::Scale { times: _, by: _ } => " dropped 0",
-        Kind::Group { by: _ } => "",
-        Kind::Spread => "",
-        Kind::Window { length: _ } => " late 0 open -",
+        Kind::Source | Kind::Keep { .. } | Kind::Group { .. } | Kind::Spread => "",
+        Kind::Scale { .. } => " dropped 0",
+        Kind::Window { .. } => " late 0 open -",
         Kind::Sink => " length 0 out -",
     }
+}
+
+// The texts of some items, one behind the other.
+fn texts<T: Copy, F: Fn(usize, T) -> Result<String, AllocError>>(
+    heap: Global,
+    items: &[T],
+    text: F,
+) -> Result<String, AllocError>
+    requires { F.IsAlwaysCallable text }
+    ensures { (said : ℕ → T → List ℕ) → ((i : ℕ) (item : T) (r : _) → F.post text i item r → IfOk r (λ s. string_bytes s ≡ said i item))
+        → IfOk result (λ s. string_bytes s ≡ texts_from said 0 items.now) }
+{
+    let mut out = String::new(heap);
+    for (i, item) in items.iter().enumerate() {
+        let more = text(i, *item)?;
+        out.push_str(more.as_str())?;
+    }
+    Ok(out)
 }
 
 fn edge_line(heap: Global, e: usize, edge: Edge) -> Result<String, AllocError>
     ensures { IfOk result (λ s. string_bytes s ≡ edge_text e edge) }
 {
-    let from = edge.from;
-    let to = edge.to;
+    let Edge { from, to } = edge;
     format!(in heap; "edge {e} {from} {to} -\n")
-}
-
-fn zero_text(first: bool) -> &'static str
-    ensures { result.now ≡ zero first }
-{
-    if first { "0" } else { ",0" }
-}
-
-// One watermark more, where the edge reaches the worker; says whether the next one is still the first.
-fn push_watermark(out: &mut String, first: bool, reached: bool) -> Result<bool, AllocError>
-    ensures next { IfOk result (λ next. next ≡ (first && not reached)) }
-    ensures text { OnOk result (string_bytes out.new ≡ string_bytes out.old ++ (if reached then zero first else [])) }
-{
-    if reached {
-        out.push_str(zero_text(first))?;
-        return Ok(false);
-    }
-    Ok(first)
 }
 
 // The last watermarks of the edges that reach a worker: 0 each.
@@ -67,9 +63,10 @@ fn watermarks(heap: Global, ends: &[Edge], w: usize) -> Result<String, AllocErro
     ensures { IfOk result (λ s. string_bytes s ≡ zeros true w ends.now) }
 {
     let mut out = String::new(heap);
-    let mut first = true;
     for edge in ends {
-        first = push_watermark(&mut out, first, edge.to as usize == w)?;
+        if edge.to as usize == w {
+            out.push_str(if out.is_empty() { "0" } else { ",0" })?;
+        }
     }
     Ok(out)
 }
@@ -109,64 +106,11 @@ fn worker_line(heap: Global, ends: &[Edge], w: usize, kind: Kind) -> Result<Stri
     }
 }
 
-fn push_worker(
-    out: &mut String,
-    heap: Global,
-    ends: &[Edge],
-    w: usize,
-    kind: Kind,
-) -> Result<(), AllocError>
-    ensures { OnOk result (string_bytes out.new ≡ string_bytes out.old ++ worker_text ends.now w kind) }
+// What is published of a sink: nothing.
+fn length(heap: Global, kind: Kind) -> Result<String, AllocError>
+    ensures { IfOk result (λ s. string_bytes s ≡ length_text kind) }
 {
-    let line = worker_line(heap, ends, w, kind)?;
-    out.push_str(line.as_str())
-}
-
-fn push_edge(out: &mut String, heap: Global, e: usize, edge: Edge) -> Result<(), AllocError>
-    ensures { OnOk result (string_bytes out.new ≡ string_bytes out.old ++ edge_text e edge) }
-{
-    let line = edge_line(heap, e, edge)?;
-    out.push_str(line.as_str())
-}
-
-fn push_length(out: &mut String, kind: Kind) -> Result<(), AllocError>
-    ensures { OnOk result (string_bytes out.new ≡ string_bytes out.old ++ length_text kind) }
-{
-    if kind.is_sink() {
-        out.push_str(" 0")?;
-    }
-    Ok(())
-}
-
-fn worker_lines(heap: Global, kinds: &[Kind], ends: &[Edge]) -> Result<String, AllocError>
-    ensures { IfOk result (λ s. string_bytes s ≡ workers_text ends.now 0 kinds.now) }
-{
-    let mut out = String::new(heap);
-    for (w, kind) in kinds.iter().enumerate() {
-        push_worker(&mut out, heap, ends, w, *kind)?;
-    }
-    Ok(out)
-}
-
-fn edge_lines(heap: Global, ends: &[Edge]) -> Result<String, AllocError>
-    ensures { IfOk result (λ s. string_bytes s ≡ edges_text 0 ends.now) }
-{
-    let mut out = String::new(heap);
-    for (e, edge) in ends.iter().enumerate() {
-        push_edge(&mut out, heap, e, *edge)?;
-    }
-    Ok(out)
-}
-
-// What is published of each sink: nothing.
-fn lengths(heap: Global, kinds: &[Kind]) -> Result<String, AllocError>
-    ensures { IfOk result (λ s. string_bytes s ≡ lengths_text kinds.now) }
-{
-    let mut out = String::new(heap);
-    for kind in kinds {
-        push_length(&mut out, *kind)?;
-    }
-    Ok(out)
+    String::from_str(heap, if kind.is_sink() { " 0" } else { "" })
 }
 
 fn joined(heap: Global, workers: &str, edges: &str, lengths: &str) -> Result<String, AllocError>
@@ -181,8 +125,8 @@ pub fn fresh_text(heap: Global, graph: &Graph) -> Result<String, AllocError>
 {
     let kinds = graph.kinds();
     let ends = graph.ends();
-    let workers = worker_lines(heap, kinds, ends)?;
-    let edges = edge_lines(heap, ends)?;
-    let lengths = lengths(heap, kinds)?;
+    let workers = texts(heap, kinds, |w, kind| worker_line(heap, ends, w, kind))?;
+    let edges = texts(heap, ends, |e, edge| edge_line(heap, e, edge))?;
+    let lengths = texts(heap, kinds, |_, kind| length(heap, kind))?;
     joined(heap, workers.as_str(), edges.as_str(), lengths.as_str())
 }
