@@ -1,6 +1,6 @@
 -- What the lines of a graph make.
 use Rattle.std.specs.Prelude.{ℕ, ◌+◌, Bool, cond, List, [], ◌∷◌, ◌++◌, length, Some, None, Ok, Err, Option, Result, ◌==◌, nat_lt}
-use Rattle.text.specs.Words.{words_of, lines_of as text_lines}
+use Rattle.text.specs.Words.{words_of, lines_of}
 use Rattle.model.specs.declared.Kind.{Kind}
 use Rattle.model.specs.declared.Edge.{Edge}
 use Rattle.model.specs.Graph.{Topology, most_workers, most_edges}
@@ -8,7 +8,8 @@ use Rattle.graph.specs.declared.line.Line.{Line}
 use Rattle.graph.specs.declared.line.Line.TheVariants as line
 use Rattle.graph.specs.declared.draft.Draft.{Draft}
 use Rattle.graph.specs.declared.draft.BadLine.{BadLine}
-use Rattle.graph.specs.Rows.{items_of, lines_of}
+use Rattle.graph.specs.Rows.{items_of}
+use Rattle.graph.specs.Rows as rows
 use Rattle.graph.specs.Line.{line_of}
 
 -- workers and edges in the order of their lines, and the numbers of those lines
@@ -25,8 +26,8 @@ abbrev pub shape_of : Draft → Shape
 shape_of d = record {
   kinds = items_of d.workers;
   edges = items_of d.edges;
-  worker_lines = lines_of d.workers;
-  edge_lines = lines_of d.edges;
+  worker_lines = rows.lines_of d.workers;
+  edge_lines = rows.lines_of d.edges;
 }
 
 abbrev pub bare : Shape
@@ -60,4 +61,4 @@ draft_from n s [] = cond (length s.kinds == 0) (bad_line n) (complete s)
 draft_from n s (l ∷ ls) = stepped n s (line_of (words_of l)) (λ t. draft_from (n + 1) t ls)
 
 abbrev pub drafted : List ℕ → Drafted
-drafted text = draft_from 1 bare (text_lines text)
+drafted text = draft_from 1 bare (lines_of text)
