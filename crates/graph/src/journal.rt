@@ -3,22 +3,13 @@ ghost use Rattle.std.specs.Prelude.{◌≡◌, [], slice_index_or};
 ghost use Rattle.text.specs.Words.{words_of};
 ghost use Rattle.graph.specs.Verdict.{name_in};
 
-use text::{line_at, next_word};
+use text::{Words, line_at};
 
 // The third word of a line; empty where there is none.
 fn third_word(line: &[u8]) -> &[u8]
     ensures { result.now ≡ slice_index_or (words_of line.now) 2 [] }
 {
-    let Some((_, rest)) = next_word(Some(line)) else {
-        return &line[..0];
-    };
-    let Some((_, rest)) = next_word(rest) else {
-        return &line[..0];
-    };
-    let Some((word, _)) = next_word(rest) else {
-        return &line[..0];
-    };
-    word
+    Words::new(line).nth(2).unwrap_or(&[])
 }
 
 // The journal's name in line `line` of a graph's text, counted from 1; empty where there is none.

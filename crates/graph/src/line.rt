@@ -1,10 +1,10 @@
 // A line of a graph.
 ghost use Rattle.std.specs.Prelude.{◌≡◌};
-ghost use Rattle.text.specs.Words.{words_of, left_of};
+ghost use Rattle.text.specs.Words.{words_of};
 ghost use Rattle.graph.specs.Line.{kind_named, journal_of, kind_of, worker_of, edge_of, line_of};
 
 use model::{Edge, Kind};
-use text::{is_name, next_word, no_word, one_number, same, two_numbers};
+use text::{Words, is_name};
 
 // The kinds of workers by name.
 #[derive(Clone, Copy)]
@@ -28,97 +28,68 @@ pub enum Line {
 fn kind_named(word: &[u8]) -> Option<Name>
     ensures { result ≡ kind_named word.now }
 {
-    if same(word, b"source") {
-        Some(Name::Source)
-    } else if same(word, b"keep") {
-        Some(Name::Keep)
-    } else if same(word, b"scale") {
-        Some(Name::Scale)
-    } else if same(word, b"group") {
-        Some(Name::Group)
-    } else if same(word, b"spread") {
-        Some(Name::Spread)
-    } else if same(word, b"window") {
-        Some(Name::Window)
-    } else if same(word, b"sink") {
-        Some(Name::Sink)
-    } else {
-        None
+    match word {
+        b"source" => Some(Name::Source),
+        b"keep" => Some(Name::Keep),
+        b"scale" => Some(Name::Scale),
+        b"group" => Some(Name::Group),
+        b"spread" => Some(Name::Spread),
+        b"window" => Some(Name::Window),
+        b"sink" => Some(Name::Sink),
+        _ => None,
     }
 }
 
 // Whether a journal's name is left and nothing after it.
-fn journal(rest: Option<&[u8]>) -> bool
-    ensures { result ≡ journal_of (left_of rest.entry) }
+fn journal(mut words: Words) -> bool
+    ensures { result ≡ journal_of words.entry }
 {
-    let Some((word, rest)) = next_word(rest) else {
-        return false;
-    };
-    if no_word(rest) { is_name(word) } else { false }
+    match words.next() {
+        Some(word) => words.no_word() && is_name(word),
+        None => false,
+    }
 }
 
 // A worker's kind, by its name and what follows.
-fn read_kind(name: Name, rest: Option<&[u8]>) -> Option<Kind>
-    ensures { result ≡ kind_of name (left_of rest.entry) }
+fn read_kind(name: Name, words: Words) -> Option<Kind>
+    ensures { result ≡ kind_of name words.entry }
 {
     match name {
-        Name::Source => {
-            if journal(rest) {
-                Some(Kind::Source)
-            } else {
-                None
-            }
-        }
+        Name::Source => journal(words).then_some(Kind::Source),
         Name::Keep => {
-            let (low, high) = two_numbers(rest)?;
+            let (low, high) = words.two_numbers()?;
             Some(Kind::Keep { low, high })
         }
         Name::Scale => {
-            let (times, by) = two_numbers(rest)?;
+            let (times, by) = words.two_numbers()?;
             Some(Kind::Scale { times, by })
         }
         Name::Group => {
-            let by = one_number(rest)?;
+            let by = words.one_number()?;
             Some(Kind::Group { by })
         }
-        Name::Spread => {
-            if no_word(rest) {
-                Some(Kind::Spread)
-            } else {
-                None
-            }
-        }
+        Name::Spread => words.no_word().then_some(Kind::Spread),
         Name::Window => {
-            let length = one_number(rest)?;
+            let length = words.one_number()?;
             Some(Kind::Window { length })
         }
-        Name::Sink => {
-            if no_word(rest) {
-                Some(Kind::Sink)
-            } else {
-                None
-            }
-        }
+        Name::Sink => words.no_word().then_some(Kind::Sink),
     }
 }
 
 // What follows the word `worker`.
-fn read_worker(rest: Option<&[u8]>) -> Option<Line>
-    ensures { result ≡ worker_of (left_of rest.entry) }
+fn read_worker(mut words: Words) -> Option<Line>
+    ensures { result ≡ worker_of words.entry }
 {
-    let Some((word, rest)) = next_word(rest) else {
-        return None;
-    };
-    let name = kind_named(word)?;
-    let kind = read_kind(name, rest)?;
-    Some(Line::Worker(kind))
+    let name = kind_named(words.next()?)?;
+    Some(Line::Worker(read_kind(name, words)?))
 }
 
 // What follows the word `edge`.
-fn read_edge(rest: Option<&[u8]>) -> Option<Line>
-    ensures { result ≡ edge_of (left_of rest.entry) }
+fn read_edge(words: Words) -> Option<Line>
+    ensures { result ≡ edge_of words.entry }
 {
-    let (from, to) = two_numbers(rest)?;
+    let (from, to) = words.two_numbers()?;
     Some(Line::Edge(Edge { from, to }))
 }
 
@@ -126,14 +97,10 @@ fn read_edge(rest: Option<&[u8]>) -> Option<Line>
 pub fn read_line(bytes: &[u8]) -> Option<Line>
     ensures { result ≡ line_of (words_of bytes.now) }
 {
-    let Some((word, rest)) = next_word(Some(bytes)) else {
-        return None;
-    };
-    if same(word, b"worker") {
-        read_worker(rest)
-    } else if same(word, b"edge") {
-        read_edge(rest)
-    } else {
-        None
+    let mut words = Words::new(bytes);
+    match words.next()? {
+        b"worker" => read_worker(words),
+        b"edge" => read_edge(words),
+        _ => None,
     }
 }

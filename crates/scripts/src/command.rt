@@ -1,10 +1,10 @@
 // A line of a script.
 ghost use Rattle.std.specs.Prelude.{◌≡◌};
-ghost use Rattle.text.specs.Words.{words_of, left_of};
+ghost use Rattle.text.specs.Words.{words_of};
 ghost use Rattle.scripts.specs.Command.{word_named, command_with, command_of};
 
 use model::Call;
-use text::{next_word, no_word, one_number, same, two_numbers};
+use text::Words;
 
 // The first word of a line.
 #[derive(Clone, Copy)]
@@ -27,58 +27,40 @@ pub enum Command {
 fn word_named(word: &[u8]) -> Option<Word>
     ensures { result ≡ word_named word.now }
 {
-    if same(word, b"step") {
-        Some(Word::Step)
-    } else if same(word, b"feed") {
-        Some(Word::Feed)
-    } else if same(word, b"cut") {
-        Some(Word::Cut)
-    } else if same(word, b"declare") {
-        Some(Word::Declare)
-    } else if same(word, b"stop") {
-        Some(Word::Stop)
-    } else if same(word, b"show") {
-        Some(Word::Show)
-    } else {
-        None
+    match word {
+        b"step" => Some(Word::Step),
+        b"feed" => Some(Word::Feed),
+        b"cut" => Some(Word::Cut),
+        b"declare" => Some(Word::Declare),
+        b"stop" => Some(Word::Stop),
+        b"show" => Some(Word::Show),
+        _ => None,
     }
 }
 
 // What a first word and the words after it ask for.
-fn command_with(word: Word, rest: Option<&[u8]>) -> Option<Command>
-    ensures { result ≡ command_with word (left_of rest.entry) }
+fn command_with(word: Word, words: Words) -> Option<Command>
+    ensures { result ≡ command_with word words.entry }
 {
     match word {
         Word::Step => {
-            let (worker, edge) = two_numbers(rest)?;
+            let (worker, edge) = words.two_numbers()?;
             Some(Command::Call(Call::Step { worker, edge }))
         }
         Word::Feed => {
-            let worker = one_number(rest)?;
+            let worker = words.one_number()?;
             Some(Command::Call(Call::Feed { worker }))
         }
         Word::Cut => {
-            let worker = one_number(rest)?;
+            let worker = words.one_number()?;
             Some(Command::Call(Call::Checkpoint { worker }))
         }
         Word::Declare => {
-            let number = one_number(rest)?;
+            let number = words.one_number()?;
             Some(Command::Call(Call::Commit { number }))
         }
-        Word::Stop => {
-            if no_word(rest) {
-                Some(Command::Call(Call::Crash))
-            } else {
-                None
-            }
-        }
-        Word::Show => {
-            if no_word(rest) {
-                Some(Command::Show)
-            } else {
-                None
-            }
-        }
+        Word::Stop => words.no_word().then_some(Command::Call(Call::Crash)),
+        Word::Show => words.no_word().then_some(Command::Show),
     }
 }
 
@@ -86,9 +68,7 @@ fn command_with(word: Word, rest: Option<&[u8]>) -> Option<Command>
 pub fn read_command(line: &[u8]) -> Option<Command>
     ensures { result ≡ command_of (words_of line.now) }
 {
-    let Some((word, rest)) = next_word(Some(line)) else {
-        return None;
-    };
-    let word = word_named(word)?;
-    command_with(word, rest)
+    let mut words = Words::new(line);
+    let word = word_named(words.next()?)?;
+    command_with(word, words)
 }

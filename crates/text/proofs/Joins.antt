@@ -1,26 +1,9 @@
 -- Parts put together and taken apart again.
-use Rattle.std.proofs.Common.{◌≡◌, ℕ, Bool, true, false, cond, not, eqb, ◌⊎◌, List, [], ◌∷◌, ◌++◌, sym, refl, ap, ◌∙◌, inl, inr, arith, eq-eqb, ne_eqb, eqb-true}
-use borrow.Author.Tests.{not-true}
+use Rattle.std.proofs.Common.{◌≡◌, ℕ, Bool, true, false, cond, not, eqb, ◌⊎◌, List, [], ◌∷◌, ◌++◌, sym, refl, ap, ◌∙◌, inl, inr, arith, ne_eqb, eqb-true}
 use Rattle.std.proofs.lemmas.Bool.{and_parts, and_from, not_from_false}
+use Rattle.text.proofs.Parts.{part_first, word_last}
 use Rattle.text.specs.Words.{onto, parts_of, words_of, lines_of}
 use Rattle.text.specs.Laws.{lacks, all_lack, spaced, joined, ended, WordsJoin, WordsAre, LinesJoin, LinesAre}
-
--- a part, its end, and the rest
-pub part_first : (e : ℕ) (base : List (List ℕ)) (w bs : List ℕ) → lacks e w ≡ true → parts_of e base (w ++ e ∷ bs) ≡ w ∷ parts_of e base bs
-part_first e base [] bs h = go (eqb e e) (eq-eqb e e refl)
-  where
-    go : (t : Bool) → t ≡ true → cond t ([] ∷ parts_of e base bs) (onto e (parts_of e base bs)) ≡ [] ∷ parts_of e base bs
-    go t is = rw is refl
-part_first e base (b ∷ w) bs h =
-    let p : (not (eqb b e) ≡ true) × (lacks e w ≡ true) = and_parts (not (eqb b e)) (lacks e w) h in
-    rw (not-true (eqb b e) p.0) (ap (onto b) (part_first e base w bs p.1))
-
--- a part with nothing after it
-word_last : (w : List ℕ) → lacks 32 w ≡ true → words_of w ≡ w ∷ []
-word_last [] h = refl
-word_last (b ∷ w) h =
-    let p : (not (eqb b 32) ≡ true) × (lacks 32 w ≡ true) = and_parts (not (eqb b 32)) (lacks 32 w) h in
-    rw (not-true (eqb b 32) p.0) (ap (onto b) (word_last w p.1))
 
 pub words_join_lem : WordsJoin
 words_join_lem w [] h = word_last w (and_parts (lacks 32 w) true h).0

@@ -1,8 +1,14 @@
-use Rattle.std.proofs.Common.{◌≡◌, ℕ, suc, ◌+◌, ◌-◌, ◌<◌, ◌≤◌, Bool, true, false, cond, eqb, List, [], ◌∷◌, length, get_or, take, drop, Some, Option, sym, refl, ap, ◌∙◌, arith, length-drop, eq-eqb, ne_eqb, eqb-true}
-use borrow.Author.Tests.{eqb-false}
-use Rattle.std.proofs.lemmas.List.{at_drop_more, at_drop_all, take_rest, drop_all}
+-- Parts of some bytes, each ended by a byte e.
+use Rattle.std.proofs.Common.{◌≡◌, ◌≢◌, ℕ, zero, suc, ◌+◌, ◌<◌, ◌≤◌, Bool, true, false, cond, not, eqb, List, [], ◌∷◌, ◌++◌, length, get_or, take, drop, Some, None, Option, Bor, MatchOption, sym, refl, ap, ◌∙◌, arith, eq-eqb, ne_eqb}
+use borrow.Author.Tests.{not-true}
+use Rattle.std.proofs.lemmas.Bool.{and_parts, and_from, not_from_false}
+use Rattle.std.proofs.lemmas.List.{at_drop_more, at_drop_all}
+use Rattle.std.proofs.lemmas.Option.{unwrap_or-slice_get}
+use Rattle.std.specs.List.{slice_get}
+use Rattle.std.specs.Option.{option_map, unwrap_or}
 use Rattle.text.specs.Number.{digits, extend}
-use Rattle.text.specs.Words.{before, parts_of, words_of, lines_of, onto}
+use Rattle.text.specs.Words.{parts_of, words_of, lines_of, left_of, onto}
+use Rattle.text.specs.Laws.{lacks}
 
 pub digits_step : (w : List ℕ) (v i : ℕ) (o : Option ℕ) → i < length w →
     digits (Some v) (drop i w) ≡ digits (Some 0) w → o ≡ extend v (get_or w i 0) →
@@ -14,90 +20,66 @@ pub digits_end : (w : List ℕ) (v i : ℕ) → length w ≤ i →
     digits (Some v) (drop i w) ≡ digits (Some 0) w → Some v ≡ digits (Some 0) w
 digits_end w v i le inv = sym (at_drop_all (digits (Some v)) w i le) ∙ inv
 
-pub before_here : (bs : List ℕ) (e i : ℕ) → i < length bs → i + before e (drop i bs) ≡ before e bs → get_or bs i 0 ≡ e →
-    i ≡ before e bs
-before_here bs e i lt inv g =
-    let h : eqb (get_or bs i 0) e ≡ true = eq-eqb (get_or bs i 0) e g in
-    let s : before e (drop i bs) ≡ cond (eqb (get_or bs i 0) e) 0 (suc (before e (drop (i + 1) bs))) = at_drop_more (before e) bs i 0 lt in
-    let z : before e (drop i bs) ≡ 0 = rw h at s in
-    omega (arith, inv, z)
+-- the byte e is none of the first n
+pub lacks_below : (e n : ℕ) (bs : List ℕ) → ((k : ℕ) → k < n → k < length bs → get_or bs k 0 ≢ e) → lacks e (take n bs) ≡ true
+lacks_below e zero bs h = refl
+lacks_below e (suc n) [] h = refl
+lacks_below e (suc n) (b ∷ bs) h =
+    and_from (not (eqb b e)) (lacks e (take n bs)) (not_from_false (eqb b e) (ne_eqb b e (h 0 (omega arith) (omega arith))))
+    (lacks_below e n bs (λ k l m. h (suc k) (omega arith) (omega arith)))
 
-pub before_more : (bs : List ℕ) (e i : ℕ) → i < length bs → i + before e (drop i bs) ≡ before e bs → (get_or bs i 0 ≡ e → ⊥) →
-    (i + 1) + before e (drop (i + 1) bs) ≡ before e bs
-before_more bs e i lt inv g =
-    let h : eqb (get_or bs i 0) e ≡ false = ne_eqb (get_or bs i 0) e g in
-    let s : before e (drop i bs) ≡ cond (eqb (get_or bs i 0) e) 0 (suc (before e (drop (i + 1) bs))) = at_drop_more (before e) bs i 0 lt in
-    let z : before e (drop i bs) ≡ suc (before e (drop (i + 1) bs)) = rw h at s in
-    omega (arith, inv, z)
-
-pub before_end : (bs : List ℕ) (e i : ℕ) → length bs ≤ i → i ≤ length bs → i + before e (drop i bs) ≡ before e bs → length bs ≡ before e bs
-before_end bs e i le ge inv =
-    let z : before e (drop i bs) ≡ 0 = at_drop_all (before e) bs i le in omega (arith, inv, z)
-
--- where a separator stands, the first part ends there
-pub parts_more : (e : ℕ) (base : List (List ℕ)) (bs : List ℕ) → before e bs < length bs →
-    parts_of e base bs ≡ take (before e bs) bs ∷ parts_of e base (drop (suc (before e bs)) bs)
-parts_more e base [] h = absurd (omega (arith, h))
-parts_more e base (b ∷ bs) h = go (eqb b e) refl (λ l. parts_more e base bs l)
+-- a part, its end, and the rest
+pub part_first : (e : ℕ) (base : List (List ℕ)) (w bs : List ℕ) → lacks e w ≡ true → parts_of e base (w ++ e ∷ bs) ≡ w ∷ parts_of e base bs
+part_first e base [] bs h = go (eqb e e) (eq-eqb e e refl)
   where
-    go : (t : Bool) → eqb b e ≡ t →
-        (before e bs < length bs → parts_of e base bs ≡ take (before e bs) bs ∷ parts_of e base (drop (suc (before e bs)) bs)) →
-        parts_of e base (b ∷ bs) ≡ take (before e (b ∷ bs)) (b ∷ bs) ∷ parts_of e base (drop (suc (before e (b ∷ bs))) (b ∷ bs))
-    go true is ih = rw is refl
-    go false is ih =
-        let l : suc (before e bs) < suc (length bs) = rw is at h in
-        let s = ih (omega (arith, l)) in rw (is, s) refl
+    go : (t : Bool) → t ≡ true → cond t ([] ∷ parts_of e base bs) (onto e (parts_of e base bs)) ≡ [] ∷ parts_of e base bs
+    go t is = rw is refl
+part_first e base (b ∷ w) bs h =
+    let p : (not (eqb b e) ≡ true) × (lacks e w ≡ true) = and_parts (not (eqb b e)) (lacks e w) h in
+    rw (not-true (eqb b e) p.0) (ap (onto b) (part_first e base w bs p.1))
 
--- where none stands, what is left is the last part
-pub parts_last : (e b : ℕ) (base : List (List ℕ)) (bs : List ℕ) → before e (b ∷ bs) ≡ length (b ∷ bs) → onto b (parts_of e base bs) ≡ parts_of e base (b ∷ bs)
-parts_last e b base bs h = go (eqb b e) refl
+-- a part with nothing after it
+pub word_last : (w : List ℕ) → lacks 32 w ≡ true → words_of w ≡ w ∷ []
+word_last [] h = refl
+word_last (b ∷ w) h =
+    let p : (not (eqb b 32) ≡ true) × (lacks 32 w ≡ true) = and_parts (not (eqb b 32)) (lacks 32 w) h in
+    rw (not-true (eqb b 32) p.0) (ap (onto b) (word_last w p.1))
+
+line_last : (b : ℕ) (bs : List ℕ) → lacks 10 (b ∷ bs) ≡ true → lines_of (b ∷ bs) ≡ (b ∷ bs) ∷ []
+line_last b [] h = let p = and_parts (not (eqb b 10)) true h in rw (not-true (eqb b 10) p.0) refl
+line_last b (x ∷ bs) h =
+    let p = and_parts (not (eqb b 10)) (lacks 10 (x ∷ bs)) h in
+    rw (not-true (eqb b 10) p.0) (ap (onto b) (line_last x bs p.1))
+
+-- the first part of some bytes, where it ends at the first byte e or with them
+abbrev Cut : ℕ → List ℕ → List ℕ → Option (Bor (List ℕ)) → Type 0
+Cut e bs first rest = MatchOption rest (bs ≡ first) (λ r. bs ≡ first ++ e ∷ r.now)
+
+pub words_next : (bs w : List ℕ) (rest : Option (Bor (List ℕ))) → lacks 32 w ≡ true → Cut 32 bs w rest → words_of bs ≡ w ∷ left_of rest
+words_next bs w None h is = ap words_of is ∙ word_last w h
+words_next bs w (Some r) h is = ap words_of is ∙ part_first 32 ([] ∷ []) w r.now h
+
+pub lines_next : (bs l : List ℕ) (rest : Option (Bor (List ℕ))) (after none : Bor (List ℕ)) → 0 < length bs → lacks 10 l ≡ true → Cut 10 bs l rest →
+    after ≡ unwrap_or rest none → none.now ≡ [] → lines_of bs ≡ l ∷ lines_of after.now
+lines_next bs [] None after none some h is last empty = absurd (let z = ap length is in omega (arith, z))
+lines_next bs (b ∷ l) None after none some h is last empty = rw (last, empty) (ap lines_of is ∙ line_last b l h)
+lines_next bs l (Some r) after none some h is more empty = rw more (ap lines_of is ∙ part_first 10 [] l r.now h)
+
+-- no more lines than bytes
+onto_length : (b n : ℕ) (parts : List (List ℕ)) → length parts ≤ n → length (onto b parts) ≤ suc n
+onto_length b n [] h = omega arith
+onto_length b n (w ∷ ws) h = omega (arith, h)
+
+pub few_lines : (bs : List ℕ) → length (lines_of bs) ≤ length bs
+few_lines [] = omega arith
+few_lines (b ∷ bs) = go (eqb b 10) (few_lines bs)
   where
-    go : (t : Bool) → eqb b e ≡ t → onto b (parts_of e base bs) ≡ parts_of e base (b ∷ bs)
-    go true is = absurd (let z : 0 ≡ suc (length bs) = rw is at h in omega (arith, z))
-    go false is = rw is refl
+    go : (t : Bool) → length (lines_of bs) ≤ length bs → length (cond t ([] ∷ lines_of bs) (onto b (lines_of bs))) ≤ suc (length bs)
+    go true h = omega (arith, h)
+    go false h = onto_length b (length bs) (lines_of bs) h
 
-pub rest_last : (e b : ℕ) (bs : List ℕ) → before e (b ∷ bs) ≡ length (b ∷ bs) → before e bs ≡ length bs
-rest_last e b bs h = go (eqb b e) refl
-  where
-    go : (t : Bool) → eqb b e ≡ t → before e bs ≡ length bs
-    go true is = absurd (let z : 0 ≡ suc (length bs) = rw is at h in omega (arith, z))
-    go false is = let z : suc (before e bs) ≡ suc (length bs) = rw is at h in omega (arith, z)
-
-pub words_last : (bs : List ℕ) → before 32 bs ≡ length bs → words_of bs ≡ bs ∷ []
-words_last [] h = refl
-words_last (b ∷ bs) h = sym (parts_last 32 b ([] ∷ []) bs h) ∙ ap (onto b) (words_last bs (rest_last 32 b bs h))
-
-pub lines_last : (b : ℕ) (bs : List ℕ) → before 10 (b ∷ bs) ≡ length (b ∷ bs) → lines_of (b ∷ bs) ≡ (b ∷ bs) ∷ []
-lines_last b [] h = sym (parts_last 10 b [] [] h)
-lines_last b (x ∷ bs) h = sym (parts_last 10 b [] (x ∷ bs) h) ∙ ap (onto b) (lines_last x bs (rest_last 10 b (x ∷ bs) h))
-
--- the same as code has it: n bytes come before the separator
-pub parts_cut : (e n : ℕ) (base : List (List ℕ)) (bs : List ℕ) → n ≡ before e bs → n ≤ length bs → (n ≡ length bs → ⊥) →
-    parts_of e base bs ≡ take n bs ∷ parts_of e base (take (length bs - (n + 1)) (drop (n + 1) bs))
-parts_cut e n base bs is le ne =
-    let l : before e bs < length bs = omega (arith, is, le, ne) in
-    let m : suc (before e bs) ≡ n + 1 = omega (arith, is) in
-    let s : parts_of e base bs ≡ take (before e bs) bs ∷ parts_of e base (drop (suc (before e bs)) bs) = parts_more e base bs l in
-    let t : parts_of e base bs ≡ take n bs ∷ parts_of e base (drop (n + 1) bs) = rw (m, sym is) at s in
-    rw (take_rest bs (n + 1)) t
-
-pub lines_end : (n : ℕ) (bs : List ℕ) → n ≡ before 10 bs → n ≡ length bs → 0 < length bs →
-    lines_of bs ≡ bs ∷ lines_of (take (length bs - n) (drop n bs))
-lines_end n [] is all h = absurd (omega (arith, h))
-lines_end n (b ∷ bs) is all h =
-    let d : take (length (b ∷ bs) - n) (drop n (b ∷ bs)) ≡ [] = take_rest (b ∷ bs) n ∙ drop_all n (b ∷ bs) (omega (arith, all)) in
-    rw d (lines_last b bs (sym is ∙ all))
-
-pub shorter : (bs : List ℕ) (n : ℕ) → 0 < n → 0 < length bs → length (take (length bs - n) (drop n bs)) < length bs
-shorter bs n p h = rw (take_rest bs n, length-drop n bs) (omega (arith, p, h))
-
--- whether a text is empty
-pub none_byte : (bs : List ℕ) → true ≡ eqb (length bs) 0 → length bs ≡ 0
-none_byte bs h = eqb-true (length bs) 0 (sym h)
-
-pub lines_none : (bs : List ℕ) → true ≡ eqb (length bs) 0 → lines_of bs ≡ []
-lines_none [] h = refl
-lines_none (b ∷ bs) h = absurd (let z = none_byte (b ∷ bs) h in omega (arith, z))
-
-pub some_byte : (bs : List ℕ) → false ≡ eqb (length bs) 0 → 0 < length bs
-some_byte bs h = let z = eqb-false (length bs) 0 (sym h) in omega (arith, z)
+-- the n-th of what an iterator gives, or nothing
+pub nth_or_empty : (all : List (List ℕ)) (n : ℕ) (item : Option (Bor (List ℕ))) (x none : Bor (List ℕ)) →
+    option_map (λ y. y.now) item ≡ slice_get all n → x ≡ unwrap_or item none → none.now ≡ [] → x.now ≡ get_or all n []
+nth_or_empty all n None x none is at empty = ap (λ y. y.now) at ∙ (empty ∙ (ap (λ o. unwrap_or o []) is ∙ unwrap_or-slice_get all n []))
+nth_or_empty all n (Some y) x none is at empty = ap (λ y. y.now) at ∙ (ap (λ o. unwrap_or o []) is ∙ unwrap_or-slice_get all n [])

@@ -1,5 +1,5 @@
 -- The words of a line and the lines of a text.
-use Rattle.std.specs.Prelude.{ℕ, suc, Bool, true, false, cond, List, [], ◌∷◌, Some, None, Option, ◌==◌}
+use Rattle.std.specs.Prelude.{ℕ, Bool, true, false, cond, List, [], ◌∷◌, Some, None, Option, ◌==◌}
 use Rattle.std.specs.Borrow.{Bor}
 use Rattle.std.specs.Str.{bytes_eq}
 use Rattle.text.specs.Number.{number_of}
@@ -26,11 +26,6 @@ lines_of bs = parts_of 10 [] bs
 abbrev pub left_of : Option (Bor (List ℕ)) → List (List ℕ)
 left_of None = []
 left_of (Some rest) = words_of rest.now
-
--- how many bytes stand before the first one that is end
-abbrev pub before : ℕ → List ℕ → ℕ
-before end [] = 0
-before end (b ∷ bs) = cond (b == end) 0 (suc (before end bs))
 
 -- exactly no word, one number, two numbers
 abbrev pub none_of : List (List ℕ) → Bool

@@ -1,39 +1,128 @@
 // Lines of a text, and words of a line.
-ghost use Rattle.std.specs.Prelude.{◌≡◌, ◌+◌, ◌-◌, ◌<◌, ◌≤◌, [], ◌∷◌, length, MatchOption, slice_index_or};
-ghost use Rattle.std.specs.Str.{bytes_eq};
-ghost use Rattle.text.specs.Words.{lines_of, left_of, before, none_of, one_of, two_of};
+ghost use Rattle.std.specs.Prelude.{◌≡◌, ◌<◌, ◌≤◌, true, [], ◌∷◌, ◌++◌, length, MatchOption, slice_index_or};
+ghost use Rattle.std.specs.Iterator.{YieldsFirstRef, item_count};
+ghost use Rattle.text.specs.Words.{words_of, lines_of, none_of, one_of, two_of};
+ghost use Rattle.text.specs.Laws.{lacks};
 
 use crate::digits::number;
+use std::marker::Model;
 
 const SPACE: u8 = 32;
 
 const LINE_FEED: u8 = 10;
 
-// How many bytes stand before the first one that is `end`: all, where there is none.
-fn until(bytes: &[u8], end: u8) -> usize
-    ensures is { result ≡ before end bytes.now }
-    ensures within { result ≤ length bytes.now }
+// What stands before the first byte that is `end`, and what stands after it; all of them and `None` where there is none.
+fn cut(bytes: &[u8], end: u8) -> (&[u8], Option<&[u8]>)
+    ensures lacks { lacks end result.0.now ≡ true }
+    ensures joins { MatchOption result.1 (bytes.now ≡ result.0.now) (λ rest. bytes.now ≡ result.0.now ++ end ∷ rest.now) }
 {
-    for (i, byte) in bytes.iter().enumerate() {
-        if *byte == end {
-            return i;
-        }
+    match bytes.iter().position(|byte| *byte == end) {
+        Some(n) => (&bytes[..n], Some(&bytes[n + 1..])),
+        None => (bytes, None),
     }
-    bytes.len()
 }
 
-// The next word of a line, and what is left after the space that ends it. `None` for a rest says that no word is to come.
-pub fn next_word(rest: Option<&[u8]>) -> Option<(&[u8], Option<&[u8]>)>
-    ensures { MatchOption result (left_of rest.entry ≡ []) (λ p. left_of rest.entry ≡ p.0.now ∷ left_of p.1) }
-{
-    let Some(bytes) = rest else {
-        return None;
-    };
-    let n = until(bytes, SPACE);
-    if n == bytes.len() {
-        Some((bytes, None))
-    } else {
-        Some((&bytes[..n], Some(&bytes[n + 1..])))
+// The words of a line that are left; `None` where no word is to come.
+#[derive(Drop)]
+pub struct Words<'a> {
+    rest: Option<&'a [u8]>,
+}
+
+impl<'a> Model for Words<'a> {
+    ghost use Rattle.std.specs.Prelude.{ℕ, List};
+    ghost use Rattle.text.specs.Words.{left_of};
+
+    ghost Value = { List (List ℕ) };
+
+    ghost view = { λ s. left_of s.rest };
+}
+
+impl<'a> Words<'a> {
+    pub fn new(line: &'a [u8]) -> Words<'a>
+        ensures { result ≡ words_of line.now }
+    {
+        Words { rest: Some(line) }
+    }
+
+    // Whether no word is left.
+    pub fn no_word(mut self) -> bool
+        ensures { result ≡ none_of self.entry }
+    {
+        self.next().is_none()
+    }
+
+    // One number and nothing after it.
+    pub fn one_number(mut self) -> Option<u32>
+        ensures { result ≡ one_of self.entry }
+    {
+        let word = self.next()?;
+        if self.no_word() { number(word) } else { None }
+    }
+
+    // Two numbers and nothing after them.
+    pub fn two_numbers(mut self) -> Option<(u32, u32)>
+        ensures { result ≡ two_of self.entry }
+    {
+        let word = self.next()?;
+        let first = number(word)?;
+        let second = self.one_number()?;
+        Some((first, second))
+    }
+}
+
+impl<'a> Iterator for Words<'a> {
+    type Item = &'a [u8];
+
+    ghost next_gives = { YieldsFirstRef (λ words. words) };
+
+    ghost remaining = { item_count (λ words. words) };
+
+    fn next(&mut self) -> Option<&'a [u8]> {
+        let (word, rest) = cut(self.rest?, SPACE);
+        self.rest = rest;
+        Some(word)
+    }
+}
+
+// The lines of a text that are left.
+#[derive(Drop)]
+pub struct Lines<'a> {
+    rest: &'a [u8],
+}
+
+impl<'a> Model for Lines<'a> {
+    ghost use Rattle.std.specs.Prelude.{ℕ, List};
+    ghost use Rattle.text.specs.Words.{lines_of};
+
+    ghost Value = { List (List ℕ) };
+
+    ghost view = { λ s. lines_of s.rest.now };
+}
+
+impl<'a> Lines<'a> {
+    // No more lines than bytes: a caller may count them.
+    pub fn new(text: &'a [u8]) -> Lines<'a>
+        ensures is { result ≡ lines_of text.now }
+        ensures few { length result ≤ length text.now }
+    {
+        Lines { rest: text }
+    }
+}
+
+impl<'a> Iterator for Lines<'a> {
+    type Item = &'a [u8];
+
+    ghost next_gives = { YieldsFirstRef (λ lines. lines) };
+
+    ghost remaining = { item_count (λ lines. lines) };
+
+    fn next(&mut self) -> Option<&'a [u8]> {
+        if self.rest.is_empty() {
+            return None;
+        }
+        let (line, rest) = cut(self.rest, LINE_FEED);
+        self.rest = rest.unwrap_or(&[]);
+        Some(line)
     }
 }
 
@@ -45,66 +134,13 @@ pub fn next_line(text: &[u8]) -> Option<(&[u8], &[u8])>
     if text.is_empty() {
         return None;
     }
-    let n = until(text, LINE_FEED);
-    if n == text.len() {
-        Some((text, &text[n..]))
-    } else {
-        Some((&text[..n], &text[n + 1..]))
-    }
-}
-
-// Whether a word is a given one.
-pub fn same(word: &[u8], name: &[u8]) -> bool
-    ensures { result ≡ bytes_eq word.now name.now }
-{
-    word == name
-}
-
-// Whether no word is left.
-pub fn no_word(rest: Option<&[u8]>) -> bool
-    ensures { result ≡ none_of (left_of rest.entry) }
-{
-    match next_word(rest) {
-        Some(_) => false,
-        None => true,
-    }
-}
-
-// One number and nothing after it.
-pub fn one_number(rest: Option<&[u8]>) -> Option<u32>
-    ensures { result ≡ one_of (left_of rest.entry) }
-{
-    let Some((word, rest)) = next_word(rest) else {
-        return None;
-    };
-    if no_word(rest) { number(word) } else { None }
-}
-
-// Two numbers and nothing after them.
-pub fn two_numbers(rest: Option<&[u8]>) -> Option<(u32, u32)>
-    ensures { result ≡ two_of (left_of rest.entry) }
-{
-    let Some((word, rest)) = next_word(rest) else {
-        return None;
-    };
-    let first = number(word)?;
-    let second = one_number(rest)?;
-    Some((first, second))
+    let (line, rest) = cut(text, LINE_FEED);
+    Some((line, rest.unwrap_or(&[])))
 }
 
 // Line n of a text, counted from 0; empty where there is none.
 pub fn line_at(text: &[u8], n: usize) -> &[u8]
     ensures { result.now ≡ slice_index_or (lines_of text.now) n [] }
 {
-    let mut rest = text;
-    for passed in 0..n {
-        let Some((_, after)) = next_line(rest) else {
-            return &text[..0];
-        };
-        rest = after;
-    }
-    match next_line(rest) {
-        Some((line, _)) => line,
-        None => &text[..0],
-    }
+    Lines::new(text).nth(n).unwrap_or(&[])
 }
