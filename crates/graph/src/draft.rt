@@ -6,7 +6,7 @@ use crate::line::{Line, read_line};
 use crate::listing::Full;
 use crate::rows::Rows;
 use model::{Edge, Kind, MOST_EDGES, MOST_WORKERS};
-use text::next_line;
+use text::Lines;
 
 #[derive(Clone, Copy)]
 pub struct Draft {
@@ -44,16 +44,12 @@ impl Draft {
         ensures { draft_of result ≡ drafted text.now }
     {
         let mut draft = Draft::new();
-        let mut rest = text;
-        let mut n: usize = 1;
-        while let Some((bytes, after)) = next_line(rest) {
-            let said = read_line(bytes).ok_or(BadLine(n))?;
-            draft.add(said, n).map_err(|_| BadLine(n))?;
-            rest = after;
-            n += 1;
+        for (n, line) in Lines::new(text).enumerate() {
+            let said = read_line(line).ok_or(BadLine(n + 1))?;
+            draft.add(said, n + 1).map_err(|_| BadLine(n + 1))?;
         }
         if draft.workers.items().is_empty() {
-            return Err(BadLine(n));
+            return Err(BadLine(Lines::new(text).count() + 1));
         }
         Ok(draft)
     }

@@ -7,7 +7,7 @@ use scripts::{Answer, answer_to, fresh_text};
 use std::alloc::AllocError;
 use std::process::ExitCode;
 use std::{env, fmt, fs, io};
-use text::next_line;
+use text::Lines;
 
 // What ends a rehearsal with status 1, each with its line for standard error.
 #[derive(Drop)]
@@ -51,7 +51,10 @@ impl fmt::Display for Failure<'_> {
                 write!(f, "{path} line {line}: refused by {number}: {why}")
             }
             Failure::NotBuilt(path, line) => {
-                write!(f, "{path} line {line}: feed and cut of a source are not built yet")
+                write!(
+                    f,
+                    "{path} line {line}: feed and cut of a source are not built yet"
+                )
             }
             Failure::Output(error) => write!(f, "standard output: {error}"),
             Failure::Memory => f.write_str("out of memory"),
@@ -86,12 +89,8 @@ fn carry_out<'a>(
     path: &'a str,
     script: &[u8],
 ) -> Result<(), Failure<'a>> {
-    let mut rest = script;
-    let mut n: usize = 1;
-    while let Some((line, after)) = next_line(rest) {
-        answer(rt, graph, path, n, line)?;
-        rest = after;
-        n = n.saturating_add(1);
+    for (n, line) in Lines::new(script).enumerate() {
+        answer(rt, graph, path, n + 1, line)?;
     }
     Ok(())
 }
