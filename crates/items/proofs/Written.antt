@@ -1,18 +1,17 @@
 -- What was written in a journal is read back, and nothing else.
-use Rattle.std.proofs.Common.{◌≡◌, ℕ, zero, suc, ◌+◌, ◌*◌, ◌/◌, ◌%◌, ◌<◌, ◌≤◌, true, false, ◌&&◌, eqb, ltb, List, [], ◌∷◌, ◌++◌, length, get_or, take, drop, Some, sym, refl, ap, ◌∙◌, subst, inl, inr, append_assoc, add-zero, arith, length-drop, take-add}
+use Rattle.std.proofs.Common.{◌≡◌, ℕ, zero, suc, ◌+◌, ◌*◌, ◌/◌, ◌%◌, ◌<◌, ◌≤◌, true, false, ◌&&◌, eqb, ltb, List, [], ◌∷◌, ◌++◌, length, get_or, take, drop, Some, Ok, Err, sym, refl, ap, ◌∙◌, subst, inl, inr, append_assoc, add-zero, arith, length-drop, take-add}
 use Rattle.std.proofs.lemmas.List.{drop-drop, get_or-drop}
+use Rattle.std.proofs.lemmas.Bool.Decides.{nat_tests}
 use Rattle.std.proofs.lemmas.Bool.{cases_Bool, eqb-true, ltb-false, le-ltb, ltb-true, lt-ltb, and_parts, and_from}
 use Rattle.items.specs.declared.Item.{Item}
 use Rattle.items.specs.declared.Item.TheVariants.{Record as ARecord, Watermark, Barrier}
-use Rattle.items.specs.declared.journal.Reading.{Reading}
-use Rattle.items.specs.declared.journal.Reading.TheVariants.{Item as AnItem, NotYet, Unknown}
-use Rattle.items.specs.Journal.{first_of, big_at, reading_at, big, bytes_of, journal_of, small, can_stand, all_stand, are_bytes, rest_at, WrittenIsRead, ReadWasWritten}
+use Rattle.items.specs.Journal.{Reading, first_of, big_at, reading_at, big, bytes_of, journal_of, small, can_stand, all_stand, are_bytes, rest_at, WrittenIsRead, ReadWasWritten}
 
 -- the number in four bytes is below 2^32, and they are its bytes
 big_back : (n : ℕ) → n < 4294967296 → n / 16777216 * 16777216 + n / 65536 % 256 * 65536 + n / 256 % 256 * 256 + n % 256 ≡ n
 big_back n h = omega arith
 
-first_written : (i : Item) (more : List ℕ) → can_stand i ≡ true → first_of (bytes_of i ++ more) ≡ AnItem i (length (bytes_of i))
+first_written : (i : Item) (more : List ℕ) → can_stand i ≡ true → first_of (bytes_of i ++ more) ≡ Ok (i, length (bytes_of i))
 first_written (ARecord r) more h =
     let p = and_parts (small r.key && small r.time) (small r.amount) h in
     let q = and_parts (small r.key) (small r.time) p.0 in
@@ -24,14 +23,14 @@ first_written (ARecord r) more h =
 first_written (Watermark t) more h =
     let l : ltb (length (big t ++ more)) 4 ≡ false = le-ltb _ 4 (omega arith) in
     rw (l, big_back t (ltb-true t 4294967296 h)) refl
-first_written (Barrier n) more h = let z : ◌≡◌ {A = ℕ} 0 1 = cc in absurd (omega arith)
+first_written (Barrier n) more h = cc
 
 drop_bytes : (xs ys : List ℕ) → drop (length xs) (xs ++ ys) ≡ ys
 drop_bytes [] ys = refl
 drop_bytes (x ∷ xs) ys = drop_bytes xs ys
 
 each_read : (is : List Item) (more : List ℕ) (n : ℕ) (none : Item) → all_stand is ≡ true → n < length is →
-    reading_at n (journal_of is ++ more) ≡ AnItem (get_or is n none) (length (bytes_of (get_or is n none)))
+    reading_at n (journal_of is ++ more) ≡ Ok (get_or is n none, length (bytes_of (get_or is n none)))
 unfolding reading_at journal_of all_stand
 each_read [] more n none all lt = absurd (omega arith)
 each_read (i ∷ is) more zero none all lt =
@@ -85,9 +84,8 @@ take_fours bs =
 
 -- what comes first, if it is an item, was written so
 abbrev Was : List ℕ → Reading → Type 0
-Was bs (AnItem i n) = (take n bs ≡ bytes_of i) × (can_stand i ≡ true)
-Was bs NotYet = Unit {0}
-Was bs Unknown = Unit {0}
+Was bs (Ok p) = (take p.1 bs ≡ bytes_of p.0) × (can_stand p.0 ≡ true)
+Was bs (Err none) = Unit {0}
 
 three : (x y z u v w : List ℕ) → x ≡ u → y ≡ v → z ≡ w → x ++ (y ++ z) ≡ u ++ (v ++ w)
 three x y z u v w p q r = cc
@@ -102,30 +100,19 @@ big_at_lem bs p l all =
     (b.0 ∙ ap big e, ap small (sym e) ∙ b.1, ap are_bytes (sym d) ∙ b.2)
 
 was_record : (bs : List ℕ) → 12 ≤ length bs → are_bytes bs ≡ true →
-    Was (1 ∷ bs) (AnItem (ARecord (record { key = big_at bs 0; time = big_at bs 4; amount = big_at bs 8 })) 13)
+    Was (1 ∷ bs) (Ok (ARecord (record { key = big_at bs 0; time = big_at bs 4; amount = big_at bs 8 }), 13))
 was_record bs l all =
     let k = big_at_lem bs 0 (omega arith) all in
     let t = big_at_lem bs 4 (omega arith) k.2 in
     let a = big_at_lem bs 8 (omega arith) t.2 in
     (ap (λ (r : List ℕ). 1 ∷ r) (take_fours bs ∙ three _ _ _ _ _ _ k.0 t.0 a.0), and_from _ _ (and_from _ _ k.1 t.1) a.1)
 
+was_watermark : (bs : List ℕ) → 4 ≤ length bs → are_bytes bs ≡ true → Was (2 ∷ bs) (Ok (Watermark (big_at bs 0), 5))
+was_watermark bs l all = let t = big_at_lem bs 0 (omega arith) all in (ap (λ (r : List ℕ). 2 ∷ r) t.0, t.1)
+
 was : (bs : List ℕ) → are_bytes bs ≡ true → Was bs (first_of bs)
 was [] all = tt
-was (kind ∷ bs) all = elim (cases_Bool (eqb kind 1)) [
-  | inl one ↦ elim (cases_Bool (ltb (length bs) 12)) [
-    | inl short ↦ rw (one, short) tt
-    | inr long ↦ rw (one, long, eqb-true kind 1 one) (was_record bs (ltb-false (length bs) 12 long) (bytes_parts kind bs all).1)
-  ]
-  | inr other ↦ elim (cases_Bool (eqb kind 2)) [
-    | inl two ↦ elim (cases_Bool (ltb (length bs) 4)) [
-      | inl short ↦ rw (other, two, short) tt
-      | inr long ↦
-          let t = big_at_lem bs 0 (omega (arith, ltb-false (length bs) 4 long)) (bytes_parts kind bs all).1 in
-          rw (other, two, long, eqb-true kind 2 two) (ap (λ (r : List ℕ). 2 ∷ r) t.0, t.1)
-    ]
-    | inr none ↦ rw (other, none) tt
-  ]
-]
+was (kind ∷ bs) all = grind (arith, nat_tests, was_record, was_watermark, bytes_parts)
 
 pub read_was_written_lem : ReadWasWritten
 read_was_written_lem bs i n all h = subst (Was bs) h (was bs all)
