@@ -2,7 +2,6 @@
 use Rattle.std.proofs.Common.{◌≡◌, ℕ, zero, suc, ◌+◌, List, ◌++◌, drop, Some, Ok, Err, refl, ap, ◌∙◌, inl, inr, suc-add, zero-add}
 use Rattle.std.proofs.lemmas.List.{drop-append-le}
 use Rattle.items.specs.declared.Item.{Item}
-use Rattle.items.specs.declared.journal.NoItem.TheVariants.{NotYet}
 use Rattle.items.specs.Journal.{Reading, first_of, reading_at, rest_behind, rest_at}
 use Rattle.items.proofs.Growing.{first_fits, first_more}
 

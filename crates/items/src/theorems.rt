@@ -5,30 +5,24 @@ ghost use Rattle.items.specs.Words.{WordsTell};
 
 pub fn numbers_tell()
     ensures { NumbersTell }
-{
-}
+{}
 
 pub fn words_tell()
     ensures { WordsTell }
-{
-}
+{}
 
 pub fn written_is_read()
     ensures { WrittenIsRead }
-{
-}
+{}
 
 pub fn read_was_written()
     ensures { ReadWasWritten }
-{
-}
+{}
 
 pub fn growing_keeps()
     ensures { GrowingKeeps }
-{
-}
+{}
 
 pub fn not_yet_before()
     ensures { NotYetBefore }
-{
-}
+{}
