@@ -1,4 +1,3 @@
-pub mod Numbers
 pub mod Coding
 pub mod Growing
 pub mod Written
