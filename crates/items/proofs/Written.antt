@@ -1,8 +1,8 @@
 -- What was written in a journal is read back, and nothing else.
-use Rattle.std.proofs.Common.{◌≡◌, ℕ, zero, suc, ◌+◌, ◌*◌, ◌/◌, ◌%◌, ◌<◌, ◌≤◌, true, ltb, List, [], ◌∷◌, ◌++◌, length, get_or, take, drop, Some, Ok, Err, sym, refl, ap, ◌∙◌, subst, append_assoc, add-zero, arith, length-append, length-drop, take-add}
+use Rattle.std.proofs.Common.{◌≡◌, ℕ, zero, suc, ◌+◌, ◌*◌, ◌/◌, ◌%◌, ◌<◌, ◌≤◌, true, List, [], ◌∷◌, ◌++◌, length, get_or, take, drop, Some, Ok, Err, sym, refl, ap, ◌∙◌, subst, append_assoc, arith, length-append, length-drop, take-add}
 use Rattle.std.proofs.lemmas.List.{drop-drop, drop_at, get_or-drop}
 use Rattle.std.proofs.lemmas.Bool.Decides.{nat_tests}
-use Rattle.std.proofs.lemmas.Bool.{ltb-true, and_parts, and_from}
+use Rattle.std.proofs.lemmas.Bool.{and_parts, and_from}
 use Rattle.items.specs.declared.Item.{Item}
 use Rattle.items.specs.declared.Item.TheVariants.{Record as ARecord, Watermark, Barrier}
 use Rattle.items.specs.Journal.{Reading, first_of, big_at, reading_at, big, bytes_of, journal_of, small, can_stand, all_stand, are_bytes, rest_at, WrittenIsRead, ReadWasWritten}
@@ -42,7 +42,7 @@ written_is_read_lem is more all = (λ n none lt. each_read is more n none all lt
 
 bytes_parts : (b : ℕ) (bs : List ℕ) → are_bytes (b ∷ bs) ≡ true → (b < 256) × (are_bytes bs ≡ true)
 unfolding are_bytes
-bytes_parts b bs h = let p = and_parts (ltb b 256) (are_bytes bs) h in (ltb-true b 256 p.0, p.1)
+bytes_parts b bs h = grind (arith, nat_tests)
 
 -- four bytes are those of the number in them, which is small
 big_is : (bs : List ℕ) → 4 ≤ length bs → are_bytes bs ≡ true → (take 4 bs ≡ big (big_at bs 0)) × (small (big_at bs 0) ≡ true) × (are_bytes (drop 4 bs) ≡ true)
@@ -54,9 +54,7 @@ big_is (a ∷ b ∷ d ∷ e ∷ bs) l h = grind (arith, nat_tests, bytes_parts)
 
 -- twelve bytes, four by four
 take_fours : (bs : List ℕ) → take 12 bs ≡ take 4 bs ++ (take 4 (drop 4 bs) ++ take 4 (drop 8 bs))
-take_fours bs =
-    let d : drop 4 (drop 4 bs) ≡ drop 8 bs = simp drop-drop in
-    take-add 4 8 bs ∙ ap (λ (r : List ℕ). take 4 bs ++ r) (take-add 4 4 (drop 4 bs) ∙ ap (λ (r : List ℕ). take 4 (drop 4 bs) ++ take 4 r) d)
+take_fours bs = take-add 4 8 bs ∙ ap (λ (r : List ℕ). take 4 bs ++ r) (take-add 4 4 (drop 4 bs) ∙ simp drop-drop)
 
 -- what comes first, if it is an item, was written so
 abbrev Was : List ℕ → Reading → Type 0
@@ -68,7 +66,7 @@ big_at_lem : (bs : List ℕ) (p : ℕ) → p + 4 ≤ length bs → are_bytes (dr
     (take 4 (drop p bs) ≡ big (big_at bs p)) × (small (big_at bs p) ≡ true) × (are_bytes (drop (p + 4) bs) ≡ true)
 big_at_lem bs p l all =
     let b = big_is (drop p bs) (simp length-drop (omega arith)) all in
-    let e : big_at (drop p bs) 0 ≡ big_at bs p = rw (get_or-drop p bs 0 0, get_or-drop p bs (0 + 1) 0, get_or-drop p bs (0 + 2) 0, get_or-drop p bs (0 + 3) 0, add-zero p) refl in
+    let e : big_at (drop p bs) 0 ≡ big_at bs p = grind (arith, get_or-drop) in
     let d : drop 4 (drop p bs) ≡ drop (p + 4) bs = drop-drop 4 p bs ∙ ap (λ (n : ℕ). drop n bs) (omega arith) in
     (b.0 ∙ ap big e, ap small (sym e) ∙ b.1, ap are_bytes (sym d) ∙ b.2)
 
