@@ -8,15 +8,13 @@ use Rattle.journals.specs.Handing.{is_there, has, told, entry_at, Found, Took, R
 use Rattle.journals.specs.declared.stop.Stop.{Stop}
 use Rattle.journals.specs.declared.stop.Stop.TheVariants.{NotYet as StopNotYet, Unknown as StopUnknown, TooMany, Failed}
 
--- what is noted behind what was held is what came
-pub noted : (held held' more before bytes : List ℕ) → held' ≡ held ++ more → before ≡ held → bytes ≡ held' →
-    take (length bytes - length before) (drop (length before) bytes) ≡ more
-noted held held' more before bytes e b d =
-    take_rest bytes (length before) ∙ rw (d, e, b) (drop_at held more (length held) refl)
-
--- bytes came behind what is held, and behind the journal
-pub holds_more : (n : ℕ) (journal held more journal' held' : List ℕ) → rest_at n journal ≡ Some held → journal' ≡ journal ++ more → held' ≡ held ++ more → rest_at n journal' ≡ Some held'
-holds_more n journal held more journal' held' h j e = rw (j, e) (rest_grows n journal held more h)
+-- what came behind what is held was noted behind the journal
+pub grown : (n : ℕ) (journal held more before bytes journal' held' : List ℕ) → rest_at n journal ≡ Some held → held' ≡ held ++ more → before ≡ held → bytes ≡ held' →
+    journal' ≡ journal ++ take (length bytes - length before) (drop (length before) bytes) → rest_at n journal' ≡ Some held'
+grown n journal held more before bytes journal' held' h e b d j =
+    let came : take (length bytes - length before) (drop (length before) bytes) ≡ more =
+    take_rest bytes (length before) ∙ rw (d, e, b) (drop_at held more (length held) refl) in
+    rw (j, came, e) (rest_grows n journal held more h)
 
 -- what comes first in what is held is what stands under that number
 pub held_told : (n : ℕ) (journal held : List ℕ) (r : Reading) → rest_at n journal ≡ Some held → first_of held ≡ r → entry_at n journal ≡ told r

@@ -9,7 +9,8 @@ use std::marker::Model;
 
 const BUFFER: usize = 65536;
 
-// They stand from `start` to `end` in a buffer whose size doesn't change, and that has room for an item.
+// They stand from `start` to `end` in a buffer whose size doesn't change, and that has room for an item. A `BufReader`
+// reads on only where all is taken, and so parts an item.
 #[derive(Drop)]
 pub(crate) struct Held {
     buffer: Vec<u8>,
