@@ -1,6 +1,6 @@
 // Journals, written byte by byte.
 use crate::record;
-use items::{Item, Reading, Refusal, read_item};
+use items::{Item, NoItem, Refusal, read_item};
 use journals::{Reader, Stop};
 use sources::{JournalFile, Memory};
 use std::alloc::AllocError;
@@ -10,46 +10,16 @@ use std::io::Write;
 use std::process::Abort;
 use std::test::Fail;
 
-// Why no item comes, by the number of the refusal, and 0 for a failure.
-const NOT_YET: u8 = 3;
-
-const UNKNOWN: u8 = 8;
-
-fn number_of(stop: Stop) -> u8 {
-    match stop {
-        Stop::NotYet => NOT_YET,
-        Stop::Unknown => UNKNOWN,
-        Stop::TooMany => 10,
-        Stop::Failed(_) => 0,
-    }
-}
-
-fn told<T>(answer: Result<T, Stop>) -> Result<T, u8> {
-    match answer {
-        Ok(value) => Ok(value),
-        Err(stop) => Err(number_of(stop)),
-    }
-}
-
-// The first item in some bytes, and how many bytes it took.
-fn first(bytes: &[u8]) -> Result<(Item, usize), u8> {
-    match read_item(bytes) {
-        Reading::Item(item, taken) => Ok((item, taken)),
-        Reading::NotYet => Err(NOT_YET),
-        Reading::Unknown => Err(UNKNOWN),
-    }
-}
-
 #[test]
 fn first_item(rt: HostRuntime) {
     let bytes = [1, 1, 2, 3, 4, 5, 6, 7, 8, 9, 10, 11, 12, 0];
     let item = (record(0x01020304, 0x05060708, 0x090a0b0c), 13);
-    assert_eq!(rt; first(&bytes[0..13]), Ok(item));
-    assert_eq!(rt; first(&bytes), Ok(item), "with a byte behind it");
+    assert_eq!(rt; read_item(&bytes[0..13]), Ok(item));
+    assert_eq!(rt; read_item(&bytes), Ok(item), "with a byte behind it");
     let item = (Item::Watermark(256), 5);
-    assert_eq!(rt; first(&[2, 0, 0, 1, 0]), Ok(item));
+    assert_eq!(rt; read_item(&[2, 0, 0, 1, 0]), Ok(item));
     assert_eq!(rt;
-        first(&[2, 0, 0, 1, 0, 3]),
+        read_item(&[2, 0, 0, 1, 0, 3]),
         Ok(item),
         "with a byte behind it"
     );
@@ -59,22 +29,27 @@ fn first_item(rt: HostRuntime) {
 fn cut_short(rt: HostRuntime) {
     let bytes = [1, 1, 2, 3, 4, 5, 6, 7, 8, 9, 10, 11, 12];
     for n in 0..13 {
-        assert_eq!(rt; first(&bytes[0..n]), Err(NOT_YET), "{}", n);
+        assert_eq!(rt; read_item(&bytes[0..n]), Err(NoItem::NotYet), "{}", n);
     }
     let bytes = [2, 0, 0, 1, 0];
     for n in 0..5 {
-        assert_eq!(rt; first(&bytes[0..n]), Err(NOT_YET), "{}", n);
+        assert_eq!(rt; read_item(&bytes[0..n]), Err(NoItem::NotYet), "{}", n);
     }
 }
 
 #[test]
 fn unknown_kind(rt: HostRuntime) {
     for kind in [0, 3, 255] {
-        assert_eq!(rt; first(&[kind]), Err(UNKNOWN), "{}", kind);
-        assert_eq!(rt; first(&[kind, 0, 0, 1, 0]), Err(UNKNOWN), "{}", kind);
+        assert_eq!(rt; read_item(&[kind]), Err(NoItem::Unknown), "{}", kind);
         assert_eq!(rt;
-            first(&[kind, 0, 0, 0, 5, 0, 0, 0, 3, 0, 0, 0, 1]),
-            Err(UNKNOWN),
+            read_item(&[kind, 0, 0, 1, 0]),
+            Err(NoItem::Unknown),
+            "{}",
+            kind
+        );
+        assert_eq!(rt;
+            read_item(&[kind, 0, 0, 0, 5, 0, 0, 0, 3, 0, 0, 0, 1]),
+            Err(NoItem::Unknown),
             "{}",
             kind
         );
@@ -122,13 +97,13 @@ fn over(rt: &HostRuntime, bytes: &[u8]) -> Result<Reader<Memory>, AllocError> {
 
 // The first items come, so many, and then no more, also when asked again; `of` says of which journal: how much of
 // JOURNAL it begins with, and which byte was put in there.
-fn gives(rt: &impl Abort, reader: &mut Reader<Memory>, count: u64, stop: u8, of: (usize, u8)) {
+fn gives(rt: &impl Abort, reader: &mut Reader<Memory>, count: u64, stop: Stop, of: (usize, u8)) {
     for i in 0..count {
         assert_eq!(rt; reader.number(), i, "{} of {:?}", i, of);
-        assert_eq!(rt; told(reader.next()), Ok(item(i)), "{} of {:?}", i, of);
+        assert_eq!(rt; reader.next(), Ok(item(i)), "{} of {:?}", i, of);
     }
     for _ in 0..2 {
-        assert_eq!(rt; told(reader.next()), Err(stop), "{} of {:?}", count, of);
+        assert_eq!(rt; reader.next(), Err(stop), "{} of {:?}", count, of);
         assert_eq!(rt; reader.number(), count, "{} of {:?}", count, of);
     }
 }
@@ -137,7 +112,7 @@ fn gives(rt: &impl Abort, reader: &mut Reader<Memory>, count: u64, stop: u8, of:
 fn no_bytes(rt: HostRuntime) -> Result<(), Fail> {
     let mut reader = over(&rt, &[])?;
     assert_eq!(rt; reader.number(), 0);
-    gives(&rt, &mut reader, 0, NOT_YET, (0, 0));
+    gives(&rt, &mut reader, 0, Stop::NotYet, (0, 0));
     Ok(())
 }
 
@@ -145,7 +120,7 @@ fn no_bytes(rt: HostRuntime) -> Result<(), Fail> {
 fn every_prefix(rt: HostRuntime) -> Result<(), Fail> {
     for len in 0..63 {
         let mut reader = over(&rt, &JOURNAL[0..len])?;
-        gives(&rt, &mut reader, complete(len), NOT_YET, (len, 0));
+        gives(&rt, &mut reader, complete(len), Stop::NotYet, (len, 0));
     }
     Ok(())
 }
@@ -157,7 +132,7 @@ fn grown(rt: HostRuntime) -> Result<(), Fail> {
         let mut memory = Memory::new(bytes);
         memory.grow(&JOURNAL[len..62])?;
         let mut reader = Reader::new(rt.alloc(), memory)?;
-        gives(&rt, &mut reader, 6, NOT_YET, (len, 0));
+        gives(&rt, &mut reader, 6, Stop::NotYet, (len, 0));
     }
     Ok(())
 }
@@ -178,7 +153,7 @@ fn unknown_behind_items(rt: HostRuntime) -> Result<(), Fail> {
     for (count, at) in [(0, 0), (1, 13), (2, 26), (3, 39), (4, 44), (5, 57), (6, 62)] {
         for kind in [0, 3, 255] {
             let mut reader = broken(&rt, at, kind)?;
-            gives(&rt, &mut reader, count, UNKNOWN, (at, kind));
+            gives(&rt, &mut reader, count, Stop::Unknown, (at, kind));
         }
     }
     Ok(())
@@ -187,35 +162,31 @@ fn unknown_behind_items(rt: HostRuntime) -> Result<(), Fail> {
 #[test]
 fn skipped(rt: HostRuntime) -> Result<(), Fail> {
     let mut reader = over(&rt, &JOURNAL)?;
-    assert_eq!(rt; told(reader.skip_to(4)), Ok(()));
+    assert_eq!(rt; reader.skip_to(4), Ok(()));
     assert_eq!(rt; reader.number(), 4);
-    assert_eq!(rt; told(reader.next()), Ok(record(5, 8, 7)), "forward");
-    assert_eq!(rt; told(reader.skip_to(1)), Ok(()));
+    assert_eq!(rt; reader.next(), Ok(record(5, 8, 7)), "forward");
+    assert_eq!(rt; reader.skip_to(1), Ok(()));
     assert_eq!(rt; reader.number(), 1);
-    assert_eq!(rt; told(reader.next()), Ok(record(5, 12, 4)), "backward");
-    assert_eq!(rt; told(reader.skip_to(2)), Ok(()));
-    assert_eq!(rt;
-        told(reader.next()),
-        Ok(record(5, 9, 2)),
-        "to where it stands"
-    );
-    assert_eq!(rt; told(reader.skip_to(6)), Ok(()));
+    assert_eq!(rt; reader.next(), Ok(record(5, 12, 4)), "backward");
+    assert_eq!(rt; reader.skip_to(2), Ok(()));
+    assert_eq!(rt; reader.next(), Ok(record(5, 9, 2)), "to where it stands");
+    assert_eq!(rt; reader.skip_to(6), Ok(()));
     assert_eq!(rt; reader.number(), 6);
-    assert_eq!(rt; told(reader.next()), Err(NOT_YET), "to the end");
-    assert_eq!(rt; told(reader.skip_to(7)), Err(NOT_YET), "beyond");
-    assert_eq!(rt; told(reader.skip_to(0)), Ok(()));
-    gives(&rt, &mut reader, 6, NOT_YET, (62, 0));
+    assert_eq!(rt; reader.next(), Err(Stop::NotYet), "to the end");
+    assert_eq!(rt; reader.skip_to(7), Err(Stop::NotYet), "beyond");
+    assert_eq!(rt; reader.skip_to(0), Ok(()));
+    gives(&rt, &mut reader, 6, Stop::NotYet, (62, 0));
     Ok(())
 }
 
 #[test]
 fn skipped_across_unknown(rt: HostRuntime) -> Result<(), Fail> {
     let mut reader = broken(&rt, 26, 3)?;
-    assert_eq!(rt; told(reader.skip_to(2)), Ok(()));
-    assert_eq!(rt; told(reader.next()), Err(UNKNOWN));
-    assert_eq!(rt; told(reader.skip_to(3)), Err(UNKNOWN));
-    assert_eq!(rt; told(reader.skip_to(1)), Ok(()));
-    assert_eq!(rt; told(reader.next()), Ok(record(5, 12, 4)));
+    assert_eq!(rt; reader.skip_to(2), Ok(()));
+    assert_eq!(rt; reader.next(), Err(Stop::Unknown));
+    assert_eq!(rt; reader.skip_to(3), Err(Stop::Unknown));
+    assert_eq!(rt; reader.skip_to(1), Ok(()));
+    assert_eq!(rt; reader.next(), Ok(record(5, 12, 4)));
     Ok(())
 }
 
@@ -235,41 +206,38 @@ fn long(rt: &HostRuntime) -> Result<Reader<Memory>, Fail> {
 fn longer_than_the_buffer(rt: HostRuntime) -> Result<(), Fail> {
     let mut reader = long(&rt)?;
     for i in 0..6000u32 {
-        assert_eq!(rt; told(reader.next()), Ok(record(i, i + 1, i + 2)));
+        assert_eq!(rt; reader.next(), Ok(record(i, i + 1, i + 2)));
     }
-    assert_eq!(rt; told(reader.next()), Err(NOT_YET));
+    assert_eq!(rt; reader.next(), Err(Stop::NotYet));
     assert_eq!(rt; reader.number(), 6000);
-    assert_eq!(rt; told(reader.skip_to(5041)), Ok(()));
-    assert_eq!(rt; told(reader.next()), Ok(record(5041, 5042, 5043)));
-    assert_eq!(rt; told(reader.skip_to(1)), Ok(()));
-    assert_eq!(rt; told(reader.next()), Ok(record(1, 2, 3)));
+    assert_eq!(rt; reader.skip_to(5041), Ok(()));
+    assert_eq!(rt; reader.next(), Ok(record(5041, 5042, 5043)));
+    assert_eq!(rt; reader.skip_to(1), Ok(()));
+    assert_eq!(rt; reader.next(), Ok(record(1, 2, 3)));
     Ok(())
 }
 
-// How many items are in some bytes, and what is behind them.
-fn counted(bytes: &[u8]) -> (u64, u8) {
+// How many items are in some bytes, which hold fewer than a hundred, and what is behind them.
+fn counted(bytes: &[u8]) -> Option<(u64, Stop)> {
     let mut rest = bytes;
     for n in 0..100 {
-        match first(rest) {
-            Ok((_, taken)) => match rest.get(taken..rest.len()) {
-                Some(behind) => rest = behind,
-                None => return (n, 0),
-            },
-            Err(stop) => return (n, stop),
+        match read_item(rest) {
+            Ok((_, taken)) => rest = rest.get(taken..rest.len())?,
+            Err(NoItem::NotYet) => return Some((n, Stop::NotYet)),
+            Err(NoItem::Unknown) => return Some((n, Stop::Unknown)),
         }
     }
-    (100, 0)
+    None
 }
 
 // The same by a reader.
-fn streamed(reader: &mut Reader<Memory>) -> (u64, u8) {
+fn streamed(reader: &mut Reader<Memory>) -> Option<(u64, Stop)> {
     for n in 0..100 {
-        match reader.next() {
-            Ok(_) => {}
-            Err(stop) => return (n, number_of(stop)),
+        if let Err(stop) = reader.next() {
+            return Some((n, stop));
         }
     }
-    (100, 0)
+    None
 }
 
 // 300 journals of 40 bytes from 0 to 2. Counted apart from this code, they hold 426 items, and in 258 of them an
@@ -285,13 +253,15 @@ fn any_bytes(rt: HostRuntime) -> Result<(), Fail> {
             state = state.wrapping_mul(1664525).wrapping_add(1013904223);
             *byte = (state >> 24) as u8 % 3;
         }
-        let (count, stop) = counted(&bytes);
+        let Some((count, stop)) = counted(&bytes) else {
+            return Err(Fail::new("too many items"));
+        };
         let mut reader = Reader::new(rt.alloc(), Memory::new(bytes))?;
-        assert_eq!(rt; streamed(&mut reader), (count, stop), "{}", round);
+        assert_eq!(rt; streamed(&mut reader), Some((count, stop)), "{}", round);
         assert_eq!(rt; reader.number(), count, "{}", round);
-        assert!(rt; stop == NOT_YET || stop == UNKNOWN, "{}", round);
+        assert!(rt; stop == Stop::NotYet || stop == Stop::Unknown, "{}", round);
         items = items.wrapping_add(count);
-        if stop == UNKNOWN {
+        if stop == Stop::Unknown {
             unknown = unknown.wrapping_add(1);
         }
     }
@@ -313,22 +283,18 @@ fn growing_file(rt: HostRuntime) -> Result<(), Fail> {
     fs::write(&rt, "growing.journal", &JOURNAL[0..30])?;
     let file = fs::open(&rt, "growing.journal")?;
     let mut reader = Reader::new(rt.alloc(), JournalFile::new(file))?;
-    assert_eq!(rt; told(reader.next()), Ok(item(0)));
-    assert_eq!(rt; told(reader.next()), Ok(item(1)));
-    assert_eq!(rt; told(reader.next()), Err(NOT_YET));
+    assert_eq!(rt; reader.next(), Ok(item(0)));
+    assert_eq!(rt; reader.next(), Ok(item(1)));
+    assert_eq!(rt; reader.next(), Err(Stop::NotYet));
     let mut end = OpenOptions::new()
         .append(true)
         .open(&rt, "growing.journal")?;
     end.write_all(&JOURNAL[30..62])?;
-    assert_eq!(rt; told(reader.next()), Ok(item(2)), "once it has grown");
-    assert_eq!(rt; told(reader.skip_to(0)), Ok(()));
-    assert_eq!(rt;
-        told(reader.next()),
-        Ok(item(0)),
-        "from the beginning again"
-    );
-    assert_eq!(rt; told(reader.skip_to(5)), Ok(()));
-    assert_eq!(rt; told(reader.next()), Ok(item(5)));
-    assert_eq!(rt; told(reader.skip_to(7)), Err(NOT_YET));
+    assert_eq!(rt; reader.next(), Ok(item(2)), "once it has grown");
+    assert_eq!(rt; reader.skip_to(0), Ok(()));
+    assert_eq!(rt; reader.next(), Ok(item(0)), "from the beginning again");
+    assert_eq!(rt; reader.skip_to(5), Ok(()));
+    assert_eq!(rt; reader.next(), Ok(item(5)));
+    assert_eq!(rt; reader.skip_to(7), Err(Stop::NotYet));
     Ok(())
 }

@@ -1,5 +1,3 @@
-pub mod Numbers
-pub mod Journals
 pub mod Coding
 pub mod Growing
 pub mod Written

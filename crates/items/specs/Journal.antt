@@ -1,29 +1,32 @@
 -- What stands in the bytes of a journal.
-use Rattle.std.specs.Prelude.{◌≡◌, ℕ, zero, suc, ◌+◌, ◌*◌, ◌/◌, ◌%◌, ◌<◌, Bool, true, false, cond, ◌&&◌, List, [], ◌∷◌, ◌++◌, length, take, drop, Some, None, Option, ◌==◌, ◌≢◌, nat_lt, slice_index, slice_index_or}
+use Rattle.std.specs.Prelude.{◌≡◌, ℕ, zero, suc, ◌+◌, ◌*◌, ◌/◌, ◌%◌, ◌<◌, Bool, true, false, cond, ◌&&◌, List, [], ◌∷◌, ◌++◌, length, take, drop, Some, None, Option, Ok, Err, Result, ◌==◌, ◌≢◌, nat_lt, slice_index, slice_index_or}
 use Rattle.items.specs.declared.Item.{Item}
 use Rattle.items.specs.declared.Item.TheVariants.{Record as ARecord, Watermark, Barrier}
-use Rattle.items.specs.declared.journal.Reading.{Reading}
-use Rattle.items.specs.declared.journal.Reading.TheVariants.{Item as AnItem, NotYet, Unknown}
+use Rattle.items.specs.declared.journal.NoItem.{NoItem}
+use Rattle.items.specs.declared.journal.NoItem.TheVariants.{NotYet, Unknown}
 
 -- the number in the four bytes from place p on, the high byte first
 abbrev pub big_at : List ℕ → ℕ → ℕ
 big_at bs p = slice_index bs p * 16777216 + slice_index bs (p + 1) * 65536 + slice_index bs (p + 2) * 256 + slice_index bs (p + 3)
 
--- what comes first: an item, with how many bytes it took; an item that is cut short; or an unknown kind
+-- what is read: an item, with how many bytes it took, or why there is none
+abbrev pub Reading : Type 0
+Reading = Result (Item × ℕ) NoItem
+
+-- what comes first: an item; one that is cut short; or one of an unknown kind
 abbrev pub first_of : List ℕ → Reading
-first_of [] = NotYet
+first_of [] = Err NotYet
 first_of (kind ∷ bs) =
     cond (kind == 1)
-    (cond (nat_lt (length bs) 12) NotYet (AnItem (ARecord (record { key = big_at bs 0; time = big_at bs 4; amount = big_at bs 8 })) 13))
+    (cond (nat_lt (length bs) 12) (Err NotYet) (Ok (ARecord (record { key = big_at bs 0; time = big_at bs 4; amount = big_at bs 8 }), 13)))
     (cond (kind == 2)
-    (cond (nat_lt (length bs) 4) NotYet (AnItem (Watermark (big_at bs 0)) 5))
-    Unknown)
+    (cond (nat_lt (length bs) 4) (Err NotYet) (Ok (Watermark (big_at bs 0), 5)))
+    (Err Unknown))
 
 -- what comes first behind an item
 abbrev pub behind : (List ℕ → Reading) → List ℕ → Reading → Reading
-behind next bs (AnItem i n) = next (drop n bs)
-behind next bs NotYet = NotYet
-behind next bs Unknown = Unknown
+behind next bs (Ok p) = next (drop p.1 bs)
+behind next bs (Err none) = Err none
 
 -- what stands under number n, items being numbered from 0; nothing can be read beyond an unknown kind
 unfoldable pub reading_at : ℕ → List ℕ → Reading
@@ -32,9 +35,8 @@ reading_at (suc n) bs = behind (reading_at n) bs (first_of bs)
 
 -- the bytes behind the first n items, if so many are there
 abbrev pub rest_behind : (List ℕ → Option (List ℕ)) → List ℕ → Reading → Option (List ℕ)
-rest_behind next bs (AnItem i n) = next (drop n bs)
-rest_behind next bs NotYet = None
-rest_behind next bs Unknown = None
+rest_behind next bs (Ok p) = next (drop p.1 bs)
+rest_behind next bs (Err none) = None
 
 unfoldable pub rest_at : ℕ → List ℕ → Option (List ℕ)
 rest_at zero bs = Some bs
@@ -73,17 +75,17 @@ are_bytes (b ∷ bs) = nat_lt b 256 && are_bytes bs
 -- Items that were written are read back, each under its number, and behind them is left what was written behind them.
 abbrev pub WrittenIsRead : Type 0
 WrittenIsRead = (is : List Item) (more : List ℕ) → all_stand is ≡ true →
-    ((n : ℕ) (none : Item) → n < length is → reading_at n (journal_of is ++ more) ≡ AnItem (slice_index_or is n none) (length (bytes_of (slice_index_or is n none))))
+    ((n : ℕ) (none : Item) → n < length is → reading_at n (journal_of is ++ more) ≡ Ok (slice_index_or is n none, length (bytes_of (slice_index_or is n none))))
     × (rest_at (length is) (journal_of is ++ more) ≡ Some more)
 
 -- What is read as an item was written as that item.
 abbrev pub ReadWasWritten : Type 0
-ReadWasWritten = (bs : List ℕ) (i : Item) (n : ℕ) → are_bytes bs ≡ true → first_of bs ≡ AnItem i n → (take n bs ≡ bytes_of i) × (can_stand i ≡ true)
+ReadWasWritten = (bs : List ℕ) (i : Item) (n : ℕ) → are_bytes bs ≡ true → first_of bs ≡ Ok (i, n) → (take n bs ≡ bytes_of i) × (can_stand i ≡ true)
 
 -- A journal that grows keeps under its number whatever was there: items, and an unknown kind.
 abbrev pub GrowingKeeps : Type 0
-GrowingKeeps = (n : ℕ) (bs more : List ℕ) → (reading_at n bs ≢ NotYet) → reading_at n (bs ++ more) ≡ reading_at n bs
+GrowingKeeps = (n : ℕ) (bs more : List ℕ) → (reading_at n bs ≢ Err NotYet) → reading_at n (bs ++ more) ≡ reading_at n bs
 
 -- What isn't there yet in a journal was there in none that it has grown from.
 abbrev pub NotYetBefore : Type 0
-NotYetBefore = (n : ℕ) (bs more : List ℕ) → reading_at n (bs ++ more) ≡ NotYet → reading_at n bs ≡ NotYet
+NotYetBefore = (n : ℕ) (bs more : List ℕ) → reading_at n (bs ++ more) ≡ Err NotYet → reading_at n bs ≡ Err NotYet

@@ -9,7 +9,7 @@ mod words;
 ghost use Rattle.std.specs.Prelude.{◌≡◌};
 ghost use Rattle.items.specs.Refusals.{number_of};
 
-pub use journal::{Reading, read_item};
+pub use journal::{NoItem, read_item};
 pub use theorems::{
     growing_keeps, not_yet_before, numbers_tell, read_was_written, words_tell, written_is_read,
 };
@@ -31,37 +31,25 @@ pub enum Item {
     Barrier(u32),
 }
 
-// Why a line, a call or a folder is refused.
+// Why a line, a call or a folder is refused, with the number by which that is printed.
 #[derive(Clone, Copy, PartialEq, Eq, Debug, Drop)]
 pub enum Refusal {
-    BadLine,
-    BadGraph,
-    NothingToTake,
-    NoRoom,
-    NotThere,
-    NotAligned,
-    NotCommittable,
-    UnknownItem,
-    BadCheckpoint,
-    CounterFull,
+    BadLine = 1,
+    BadGraph = 2,
+    NothingToTake = 3,
+    NoRoom = 4,
+    NotThere = 5,
+    NotAligned = 6,
+    NotCommittable = 7,
+    UnknownItem = 8,
+    BadCheckpoint = 9,
+    CounterFull = 10,
 }
 
 impl Refusal {
-    // The number by which a refusal is printed.
     pub fn number(self) -> u8
         ensures { result ≡ number_of self }
     {
-        match self {
-            Refusal::BadLine => 1,
-            Refusal::BadGraph => 2,
-            Refusal::NothingToTake => 3,
-            Refusal::NoRoom => 4,
-            Refusal::NotThere => 5,
-            Refusal::NotAligned => 6,
-            Refusal::NotCommittable => 7,
-            Refusal::UnknownItem => 8,
-            Refusal::BadCheckpoint => 9,
-            Refusal::CounterFull => 10,
-        }
+        self as u8
     }
 }

@@ -3,38 +3,26 @@ ghost use Rattle.items.specs.Journal.{GrowingKeeps, NotYetBefore, ReadWasWritten
 ghost use Rattle.items.specs.Refusals.{NumbersTell};
 ghost use Rattle.items.specs.Words.{WordsTell};
 
-pub fn numbers_tell() -> u8
+pub fn numbers_tell()
     ensures { NumbersTell }
-{
-    0
-}
+{}
 
-pub fn words_tell() -> u8
+pub fn words_tell()
     ensures { WordsTell }
-{
-    0
-}
+{}
 
-pub fn written_is_read() -> u8
+pub fn written_is_read()
     ensures { WrittenIsRead }
-{
-    0
-}
+{}
 
-pub fn read_was_written() -> u8
+pub fn read_was_written()
     ensures { ReadWasWritten }
-{
-    0
-}
+{}
 
-pub fn growing_keeps() -> u8
+pub fn growing_keeps()
     ensures { GrowingKeeps }
-{
-    0
-}
+{}
 
-pub fn not_yet_before() -> u8
+pub fn not_yet_before()
     ensures { NotYetBefore }
-{
-    0
-}
+{}

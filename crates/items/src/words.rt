@@ -53,9 +53,7 @@ impl Item {
     pub fn load(words: &[u32]) -> Option<Item>
         ensures { result ≡ first_in words.now }
     {
-        let [a, b, c, d, ..] = words else {
-            return None;
-        };
-        Item::decode([*a, *b, *c, *d])
+        let front = words.first_chunk::<4>()?;
+        Item::decode(*front)
     }
 }

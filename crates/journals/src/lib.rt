@@ -1,6 +1,7 @@
 // Journals, read item by item from any source of bytes, in fixed memory.
 #![tactic(auto)]
 
+mod held;
 mod reader;
 mod reading;
 mod stop;

@@ -1,15 +1,19 @@
-ghost use Rattle.std.specs.Prelude.{◌≡◌};
+ghost use Rattle.std.specs.Prelude.{◌≡◌, pos, unwrap_or};
+ghost use Rattle.std.specs.IoError.{raw_os_error};
+ghost use Rattle.journals.specs.declared.stop.Stop.TheVariants.{Failed};
 ghost use Rattle.journals.specs.Stops.{refusal_of};
 
 use items::Refusal;
+use std::io;
 
 // Why no item comes: it isn't there yet, it is of an unknown kind, the items would be too many to be numbered, or the
-// source failed, with the system's number of the failure.
+// source failed, with the system's number of the failure, 0 where it has none.
 #[derive(Clone, Copy, PartialEq, Eq, Debug, Drop)]
 pub enum Stop {
     NotYet,
     Unknown,
     TooMany,
+    // an `io::Error` is some 100 bytes long, and so would be every answer
     Failed(i32),
 }
 
@@ -24,5 +28,13 @@ impl Stop {
             Stop::TooMany => Some(Refusal::CounterFull),
             Stop::Failed(_) => None,
         }
+    }
+}
+
+impl From<io::Error> for Stop {
+    ghost from_gives = { λ error stop. stop ≡ Failed (unwrap_or (raw_os_error error) (pos 0)) };
+
+    fn from(error: io::Error) -> Stop {
+        Stop::Failed(error.raw_os_error().unwrap_or(0))
     }
 }

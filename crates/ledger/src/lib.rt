@@ -6,6 +6,7 @@ ghost use Rattle.std.specs.Borrow.{ftrue};
 
 use std::marker::Model;
 
+#[derive(Drop)]
 pub struct Ledger {
     ghost bytes: { List ℕ },
 }
@@ -34,11 +35,5 @@ impl Ledger {
     {
         let old = std::mem::replace(self, Ledger::new());
         *self = old.noted(bytes);
-    }
-}
-
-impl Drop for Ledger {
-    fn drop(self) {
-        let Ledger {} = self;
     }
 }

@@ -1,5 +1,7 @@
 // The sources of a journal's bytes: memory, and files.
-ghost use Rattle.std.specs.Prelude.{◌≡◌, ◌<◌, ◌≤◌, false, [], ◌++◌, length, take, MatchResult, ◌==◌};
+ghost use Rattle.std.specs.Prelude.{◌≡◌, false, [], ◌++◌, length, take, MatchResult, ◌==◌};
+ghost use Rattle.sources.specs.declared.ends.Last.TheVariants.{Gave};
+ghost use Rattle.sources.specs.Files.{has_ended, has_failed};
 
 use crate::{Memory, Source};
 use ledger::Ledger;
@@ -25,17 +27,6 @@ impl Memory {
     }
 }
 
-// Copies as many bytes as there are on both sides, and says how many.
-fn copy_front(from: &[u8], into: &mut [u8]) -> usize
-    ensures fits { (result ≤ length from.now) × (result ≤ length into.old) }
-    ensures most { result ≡ 0 → 0 < length into.old → length from.now ≡ 0 }
-    ensures copied { take result into.new ≡ take result from.now }
-{
-    let n = from.len().min(into.len());
-    into[0..n].copy_from_slice(&from[0..n]);
-    n
-}
-
 impl Source for Memory {
     ghost given = { λ m. take m.at m.bytes.items };
 
@@ -44,7 +35,8 @@ impl Source for Memory {
     ghost failed = { λ _. false };
 
     fn read(&mut self, into: &mut [u8]) -> io::Result<usize> {
-        let n = copy_front(&self.bytes[self.at..], into);
+        let mut rest = &self.bytes[self.at..];
+        let n = rest.read(into)?;
         self.at += n;
         Ok(n)
     }
@@ -55,25 +47,31 @@ impl Source for Memory {
     }
 }
 
+// What came of the last question to a file: it gave bytes or was not asked yet, it had no more, or it failed.
+#[derive(Drop)]
+enum Last {
+    Gave,
+    Ended,
+    Failed,
+}
+
 // A journal in a file. The note says what was read from it.
 #[derive(Drop)]
 pub struct JournalFile {
     file: File,
     given: Ledger,
-    ended: bool,
-    failed: bool,
+    last: Last,
 }
 
 impl JournalFile {
     // The file is to stand at its beginning.
     pub fn new(file: File) -> JournalFile
-        ensures { (result.given.bytes ≡ []) × (result.ended ≡ false) × (result.failed ≡ false) }
+        ensures { (result.given.bytes ≡ []) × (result.last ≡ Gave) }
     {
         JournalFile {
             file,
             given: Ledger::new(),
-            ended: false,
-            failed: false,
+            last: Last::Gave,
         }
     }
 }
@@ -81,37 +79,24 @@ impl JournalFile {
 impl Source for JournalFile {
     ghost given = { λ f. f.given.bytes };
 
-    ghost ended = { λ f. f.ended };
+    ghost ended = { λ f. has_ended f.last };
 
-    ghost failed = { λ f. f.failed };
+    ghost failed = { λ f. has_failed f.last };
 
     fn read(&mut self, into: &mut [u8]) -> io::Result<usize> {
-        match self.file.read(into) {
-            Ok(n) => {
-                self.given.note(&into[0..n]);
-                self.ended = n == 0;
-                self.failed = false;
-                Ok(n)
-            }
-            Err(e) => {
-                self.failed = true;
-                Err(e)
-            }
-        }
+        // until it has answered
+        self.last = Last::Failed;
+        let n = self.file.read(into)?;
+        self.given.note(&into[0..n]);
+        self.last = if n == 0 { Last::Ended } else { Last::Gave };
+        Ok(n)
     }
 
     fn rewind(&mut self) -> io::Result<()> {
-        match self.file.seek(SeekFrom::Start(0)) {
-            Ok(_) => {
-                self.given = Ledger::new();
-                self.ended = false;
-                self.failed = false;
-                Ok(())
-            }
-            Err(e) => {
-                self.failed = true;
-                Err(e)
-            }
-        }
+        self.last = Last::Failed;
+        self.file.seek(SeekFrom::Start(0))?;
+        self.given = Ledger::new();
+        self.last = Last::Gave;
+        Ok(())
     }
 }

@@ -1,14 +1,13 @@
-use Rattle.std.proofs.Common.{◌≡◌, ℕ, List, drop, ap, ◌∙◌, arith}
-use Rattle.std.proofs.lemmas.List.{take_rest}
-use Rattle.sources.proofs.Fronts.{all_given, handed_more}
+use Rattle.std.proofs.Common.{ℕ, List, ◌++◌, take, drop, sym, ap, ◌∙◌, take-add}
+use Rattle.std.proofs.lemmas.List.{take_at, take_rest}
 use Rattle.sources.proofs.ends.MemorySource.read.Goals as goal
 
-pub returns : goal.returns
-returns c =
+-- what follows is read into the front
+pub returns-clause-handed : goal.returns-clause-handed
+returns-clause-handed c =
     let at : ℕ = c.args.self.now.at in
+    let bytes : List ℕ = c.args.self.now.bytes.items in
+    let n : ℕ = c.in_ok-n.n in
+    let read = c.in_ok-n.ensures in
     let rest = take_rest c.deref.result.now at ∙ ap (λ (bs : List ℕ). drop at bs) c.deref.ensures.value in
-    record {
-      handed = (omega arith, handed_more at c.copy_front-n.result c.args.self.now.bytes.items _ c.copy_front-n.new.into rest c.copy_front-n.ensures.copied);
-      failed = λ no. let z : ◌≡◌ {A = ℕ} 0 1 = cc in absurd (omega arith);
-      ended = λ z pos. all_given at c.copy_front-n.result c.args.self.now.bytes.items _ c.args.self.now.inside rest (c.copy_front-n.ensures.most z pos) z;
-    }
+    (read.bound.0, take-add at n bytes ∙ ap (λ (bs : List ℕ). take at bytes ++ bs) (ap (λ (bs : List ℕ). take n bs) (sym rest ∙ read.bytes.0) ∙ take_at _ _ n (sym read.bound.1)))
