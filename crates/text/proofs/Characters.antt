@@ -1,26 +1,18 @@
 -- Names.
-use Rattle.std.proofs.Common.{◌≡◌, ℕ, zero, suc, ◌<◌, ◌≤◌, Bool, true, false, cond, not, eqb, ltb, List, [], ◌∷◌, length, get_or, IsUtf8, Decides, sym, refl, inl, inr, arith, ltb-true, lt-ltb, ne_eqb}
+use Rattle.std.proofs.Common.{Result, Ok, Err, ◌≡◌, ℕ, zero, suc, ◌<◌, ◌≤◌, Bool, true, false, cond, not, eqb, ltb, List, [], ◌∷◌, length, get_or, IsUtf8, Bor, Decides, sym, refl, inl, inr, arith, ltb-true, lt-ltb, ne_eqb}
 use borrow.Author.Tests.{clash, eqb-false}
-use lib.Utf8.{encodes, scalars}
-use Rattle.std.specs.Str.{chars, bytes_eq}
+use Rattle.std.specs.Result.{MatchResult, is_ok}
+use Rattle.std.specs.Str.{is_utf8, IsValidUpTo, valid_up_to}
+use Rattle.std.specs.declared.str.Utf8Error.{Utf8Error}
 use Rattle.std.proofs.lemmas.Bool.{and_parts, and_from, cases_Bool, not_from_false}
-use Rattle.std.proofs.lemmas.Slice.Eq.{bytes_eq-Decides}
-use Rattle.std.proofs.lemmas.Str.{encodes-chars, scalars-chars}
-use Rattle.text.specs.Name.{visible, is_utf8, is_name, NameIs}
+use Rattle.std.proofs.lemmas.Str.{IsUtf8-from_is_utf8, is_utf8-from_IsUtf8}
+use Rattle.text.specs.Name.{visible, is_name, NameIs}
 use Rattle.text.specs.Laws.{lacks}
 
-pub utf8_is : (bs : List ℕ) → Decides (is_utf8 bs) (IsUtf8 bs)
-utf8_is bs =
-    let same : Decides (bytes_eq (encodes (chars bs)) bs) (encodes (chars bs) ≡ bs) = bytes_eq-Decides (encodes (chars bs)) bs in (
-      λ h. let p = and_parts (scalars (chars bs)) (bytes_eq (encodes (chars bs)) bs) h in (chars bs, (p.0, same.0 p.1)),
-      λ u. and_from (scalars (chars bs)) (bytes_eq (encodes (chars bs)) bs) (scalars-chars bs u) (same.1 (encodes-chars bs u)),
-    )
-
-pub utf8_yes : (bs : List ℕ) → IsUtf8 bs → true ≡ is_utf8 bs
-utf8_yes bs u = sym ((utf8_is bs).1 u)
-
-pub utf8_no : (bs : List ℕ) → (IsUtf8 bs → ⊥) → false ≡ is_utf8 bs
-utf8_no bs no_way = elim (cases_Bool (is_utf8 bs)) [ inl h ↦ absurd (no_way ((utf8_is bs).0 h)) | inr h ↦ sym h ]
+-- what `from_utf8` says of some bytes
+pub utf8_ok : (r : Result (Bor (List ℕ)) Utf8Error) (bs : List ℕ) → MatchResult r (λ s. (s.now ≡ bs) × IsUtf8 bs) (λ e. ¬ (IsUtf8 bs) × IsValidUpTo bs (valid_up_to e)) → is_ok r ≡ is_utf8 bs
+utf8_ok (Ok s) bs is = sym (is_utf8-from_IsUtf8 bs is.1)
+utf8_ok (Err e) bs is = elim (cases_Bool (is_utf8 bs)) [ inl h ↦ absurd (is.0 (IsUtf8-from_is_utf8 bs h)) | inr h ↦ sym h ]
 
 abbrev Visible : List ℕ → Type 0
 Visible w = (i : ℕ) → i < length w → 32 < get_or w i 0
@@ -39,14 +31,14 @@ name_is_lem w = (forth (eqb (length w) 0) refl (visible w) refl, λ p. back p.0 
   where
     forth : (e : Bool) → eqb (length w) 0 ≡ e → (v : Bool) → visible w ≡ v → cond e false (cond v (is_utf8 w) false) ≡ true → (0 < length w) × (Visible w × IsUtf8 w)
     forth true e v is h = absurd (clash h)
-    forth false e true is h = (let n = eqb-false (length w) 0 e in omega (arith, n), (visible_from w is, (utf8_is w).0 h))
+    forth false e true is h = (let n = eqb-false (length w) 0 e in omega (arith, n), (visible_from w is, IsUtf8-from_is_utf8 w h))
     forth false e false is h = absurd (clash h)
 
     back : 0 < length w → Visible w → IsUtf8 w → is_name w ≡ true
     back some v u =
         let e : eqb (length w) 0 ≡ false = ne_eqb (length w) 0 (omega arith) in
         let a : visible w ≡ true = visible_to w v in
-        rw (e, a) ((utf8_is w).1 u)
+        rw (e, a) (is_utf8-from_IsUtf8 w u)
 
 -- a name has neither spaces nor line feeds
 pub visible_lacks : (e : ℕ) (bs : List ℕ) → e ≤ 32 → visible bs ≡ true → lacks e bs ≡ true

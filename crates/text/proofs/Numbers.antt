@@ -2,9 +2,10 @@
 use Rattle.std.proofs.Common.{◌≡◌, ℕ, ◌+◌, ◌-◌, ◌*◌, ◌^◌, ◌<◌, ◌≤◌, Bool, true, false, cond, not, eqb, ltb, List, [], ◌∷◌, length, get_or, Some, None, decimal, Option, sym, refl, ap, ◌∙◌, inl, inr, arith, rules, ltb-false, le-ltb, ne_eqb}
 use borrow.Author.Tests.{clash, eqb-false}
 use Rattle.std.proofs.lemmas.Bool.{cases_eq, and_from, not_from_false}
+use Rattle.std.proofs.lemmas.List.Folds.{fold_stays}
 use Rattle.std.proofs.lemmas.Str.Parse.{IsNumeralModel, numerals_by_fold}
 use Rattle.std.proofs.lemmas.Fmt.{decimal-digits_value, digits_decimal, digits_value-decimal, decimal_digit, decimal_nonempty, first_decimal}
-use Rattle.text.specs.Number.{most, extend, digits, padded, number_of}
+use Rattle.text.specs.Number.{most, extend, read_on, digits, padded, number_of}
 use Rattle.text.specs.Laws.{NumberIs, lacks}
 
 abbrev AllDigits : List ℕ → Type 0
@@ -24,7 +25,7 @@ some_not_none n h = let z : ◌≡◌ {A = ℕ} 0 1 = cc in omega arith
 
 -- what was read passed a test
 chosen : (t : Bool) (o : Option ℕ) (bs : List ℕ) (n : ℕ) → digits (cond t None o) bs ≡ Some n → (t ≡ false) × (digits o bs ≡ Some n)
-chosen true o bs n h = absurd (some_not_none n h)
+chosen true o bs n h = absurd (some_not_none n (sym (fold_stays read_on None (λ b. refl) bs) ∙ h))
 chosen false o bs n h = (refl, h)
 
 read_is : (bs : List ℕ) (v n : ℕ) → v ≤ most → digits (Some v) bs ≡ Some n → (AllDigits bs × (n ≡ value_of v bs)) × (n ≤ most)

@@ -1,5 +1,7 @@
 -- Numbers in text.
 use Rattle.std.specs.Prelude.{ℕ, ◌+◌, ◌-◌, ◌*◌, Bool, true, false, cond, List, [], ◌∷◌, Some, None, Option, ◌==◌, nat_lt}
+use Rattle.std.specs.List.{fold}
+use Rattle.std.specs.Option.{option_and_then}
 
 abbrev pub most : ℕ
 most = 4294967295
@@ -10,10 +12,11 @@ extend value byte =
     cond (nat_lt byte 48) None (cond (nat_lt 57 byte) None
     (cond (nat_lt most (value * 10 + (byte - 48))) None (Some (value * 10 + (byte - 48)))))
 
+abbrev pub read_on : Option ℕ → ℕ → Option ℕ
+read_on so_far byte = option_and_then (λ value. extend value byte) so_far
+
 abbrev pub digits : Option ℕ → List ℕ → Option ℕ
-digits None bs = None
-digits (Some value) [] = Some value
-digits (Some value) (b ∷ bs) = digits (extend value b) bs
+digits so_far bs = fold read_on so_far bs
 
 -- no digit at all, or a needless leading zero
 abbrev pub padded : List ℕ → Bool

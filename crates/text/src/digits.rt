@@ -1,36 +1,25 @@
 // Decimal numbers of at most 32 bits.
-ghost use Rattle.std.specs.Prelude.{◌≡◌, ◌+◌, ◌-◌, ◌*◌, ◌<◌, Some};
+ghost use Rattle.std.specs.Prelude.{◌≡◌, Some};
 ghost use Rattle.text.specs.Number.{number_of, digits, extend};
-
-const MOST: u64 = 4294967295;
 
 // The value so far with one more decimal digit.
 fn extended(value: u32, byte: u8) -> Option<u32>
     ensures { result ≡ extend value byte }
 {
-    if byte < 48 {
+    if !byte.is_ascii_digit() {
         return None;
     }
-    if byte > 57 {
-        return None;
-    }
-    let wide = u64::from(value) * 10 + u64::from(byte - 48);
-    if wide > MOST {
-        return None;
-    }
-    Some(wide as u32)
+    let wide = u64::from(value) * 10 + u64::from(byte - b'0');
+    u32::try_from(wide).ok()
 }
 
 // The value of decimal digits.
 fn value_of(word: &[u8]) -> Option<u32>
     ensures { result ≡ digits (Some 0) word.now }
 {
-    let mut value: u32 = 0;
+    let mut value = 0;
     for byte in word {
-        let Some(more) = extended(value, *byte) else {
-            return None;
-        };
-        value = more;
+        value = extended(value, *byte)?;
     }
     Some(value)
 }
@@ -41,7 +30,7 @@ pub fn number(word: &[u8]) -> Option<u32>
 {
     match word {
         [] => None,
-        [48, _, ..] => None,
+        [b'0', _, ..] => None,
         _ => value_of(word),
     }
 }

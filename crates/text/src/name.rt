@@ -1,6 +1,6 @@
 // A file's name as one word.
 ghost use Rattle.std.specs.Prelude.{◌≡◌};
-ghost use Rattle.text.specs.Name.{is_name, visible, is_utf8};
+ghost use Rattle.text.specs.Name.{is_name, visible};
 
 use std::str;
 
@@ -10,33 +10,13 @@ const SPACE: u8 = 32;
 fn is_visible(word: &[u8]) -> bool
     ensures { result ≡ visible word.now }
 {
-    for byte in word {
-        if *byte <= SPACE {
-            return false;
-        }
-    }
-    true
-}
-
-fn is_utf8(word: &[u8]) -> bool
-    ensures { result ≡ is_utf8 word.now }
-{
-    match str::from_utf8(word) {
-        Ok(_) => true,
-        Err(_) => false,
-    }
+    word.iter().all(|byte| *byte > SPACE)
 }
 
 // Whether a word can be a file's name: UTF-8, not empty, every byte above a space.
+#[tactic(auto, using(crate::proofs::Characters::utf8_ok))]
 pub fn is_name(word: &[u8]) -> bool
     ensures { result ≡ is_name word.now }
 {
-    if word.is_empty() {
-        return false;
-    }
-    if is_visible(word) {
-        is_utf8(word)
-    } else {
-        false
-    }
+    !word.is_empty() && is_visible(word) && str::from_utf8(word).is_ok()
 }

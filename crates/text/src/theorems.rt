@@ -2,38 +2,26 @@
 ghost use Rattle.text.specs.Name.{NameIs};
 ghost use Rattle.text.specs.Laws.{NumberIs, WordsJoin, WordsAre, LinesJoin, LinesAre};
 
-pub fn number_is() -> u8
+pub fn number_is()
     ensures { NumberIs }
-{
-    0
-}
+{}
 
-pub fn words_join() -> u8
+pub fn words_join()
     ensures { WordsJoin }
-{
-    0
-}
+{}
 
-pub fn lines_join() -> u8
+pub fn lines_join()
     ensures { LinesJoin }
-{
-    0
-}
+{}
 
-pub fn name_is() -> u8
+pub fn name_is()
     ensures { NameIs }
-{
-    0
-}
+{}
 
-pub fn words_are() -> u8
+pub fn words_are()
     ensures { WordsAre }
-{
-    0
-}
+{}
 
-pub fn lines_are() -> u8
+pub fn lines_are()
     ensures { LinesAre }
-{
-    0
-}
+{}

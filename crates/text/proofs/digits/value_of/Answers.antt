@@ -1,12 +1,8 @@
-use Rattle.std.proofs.Common.{arith}
-use Rattle.text.proofs.Parts.{digits_step, digits_end}
+use Rattle.std.proofs.Common.{Some, None, refl, ◌∙◌, rules}
+use Rattle.std.proofs.lemmas.List.Folds.{fold_stuck}
+use Rattle.text.specs.Number.{read_on}
 use Rattle.text.proofs.digits.value_of.Goals as goal
 
-pub returns-in_default : goal.returns-in_default
-returns-in_default c = digits_step _ _ c.loop-byte.byte-index _ (omega arith) c.loop-byte.invariant c.in_default.ensures
-
-pub loop-byte-preserved : goal.loop-byte-preserved
-loop-byte-preserved c = digits_step _ _ c.loop-byte.byte-index _ (omega arith) c.loop-byte.invariant c.in-Some.ensures
-
-pub returns : goal.returns
-returns c = digits_end _ _ _ c.loop-byte-test.false c.loop-byte.invariant
+pub returns-in_err-value : goal.returns-in_err-value
+returns-in_err-value c =
+    c.from_residual.ensures ∙ fold_stuck read_on None (λ byte. refl) (Some 0) c.args.word.now c.loop-byte.byte-index 0 c.loop-byte-test.true (search rules)
