@@ -1,33 +1,66 @@
 // One text for each reason of a refusal, and a graph of every kind.
-use graph::read;
+use graph::{Refused, read};
+use items::Refusal;
 
-// The number and the line of a refusal, 0 and 0 where the text is a graph.
-fn verdict(text: &[u8]) -> (u8, usize) {
-    match read(text) {
-        Ok(_) => (0, 0),
-        Err(refused) => (refused.refusal.number(), refused.line),
-    }
+// Whether a text is a graph.
+fn verdict(text: &[u8]) -> Result<(), Refused> {
+    read(text)?;
+    Ok(())
+}
+
+fn bad_line(line: usize) -> Result<(), Refused> {
+    Err(Refused {
+        refusal: Refusal::BadLine,
+        line,
+    })
+}
+
+fn bad_graph(line: usize) -> Result<(), Refused> {
+    Err(Refused {
+        refusal: Refusal::BadGraph,
+        line,
+    })
 }
 
 #[test]
 fn every_kind(rt: HostRuntime) {
     let text =
         b"worker source a\nworker keep 1 1\nworker scale 0 1\nworker group 1\nworker spread\nworker window 1\nworker sink\nedge 0 1\nedge 1 2\nedge 2 3\nedge 3 4\nedge 4 5\nedge 5 6";
-    assert_eq!(rt; verdict(text), (0, 0));
+    assert_eq!(rt; verdict(text), Ok(()));
 }
 
 #[test]
 fn bad_lines(rt: HostRuntime) {
-    assert_eq!(rt; verdict(b""), (1, 1), "no worker");
-    assert_eq!(rt; verdict(b"edge 0 1\n"), (1, 2), "no worker behind an edge");
-    assert_eq!(rt; verdict(b"worker source a\n\n"), (1, 2), "an empty line");
-    assert_eq!(rt; verdict(b"worker  sink\n"), (1, 1), "two spaces");
-    assert_eq!(rt; verdict(b"worker sink\r\n"), (1, 1), "a carriage return");
-    assert_eq!(rt; verdict(b"worker group 01\n"), (1, 1), "a leading zero");
-    assert_eq!(rt; verdict(b"worker group 4294967296\n"), (1, 1), "33 bits");
+    assert_eq!(rt; verdict(b""), bad_line(1), "no worker");
+    assert_eq!(rt;
+        verdict(b"edge 0 1\n"),
+        bad_line(2),
+        "no worker behind an edge"
+    );
+    assert_eq!(rt;
+        verdict(b"worker source a\n\n"),
+        bad_line(2),
+        "an empty line"
+    );
+    assert_eq!(rt; verdict(b"worker  sink\n"), bad_line(1), "two spaces");
+    assert_eq!(rt;
+        verdict(b"worker sink\r\n"),
+        bad_line(1),
+        "a carriage return"
+    );
+    assert_eq!(rt;
+        verdict(b"worker group 01\n"),
+        bad_line(1),
+        "a leading zero"
+    );
+    assert_eq!(rt;
+        verdict(b"worker group 4294967296\n"),
+        bad_line(1),
+        "33 bits"
+    );
     assert_eq!(rt;
         verdict(b"worker source \xff\n"),
-        (1, 1),
+        bad_line(1),
         "a name that is no text"
     );
 }
@@ -36,47 +69,47 @@ fn bad_lines(rt: HostRuntime) {
 fn bad_graphs(rt: HostRuntime) {
     assert_eq!(rt;
         verdict(b"worker source a\nworker keep 2 1\nworker sink\nedge 0 1\nedge 1 2"),
-        (2, 2),
+        bad_graph(2),
         "low above high"
     );
     assert_eq!(rt;
         verdict(b"worker source a\nworker scale 1 0\nworker sink\nedge 0 1\nedge 1 2"),
-        (2, 2),
+        bad_graph(2),
         "a division by 0"
     );
     assert_eq!(rt;
         verdict(b"worker source a\nworker window 0\nworker sink\nedge 0 1\nedge 1 2"),
-        (2, 2),
+        bad_graph(2),
         "a length of 0"
     );
     assert_eq!(rt;
         verdict(b"worker source a\nworker sink\nedge 0 1\nedge 1 1"),
-        (2, 4),
+        bad_graph(4),
         "an edge that does not go up"
     );
     assert_eq!(rt;
         verdict(b"worker source a\nworker sink\nedge 0 1\nedge 0 2"),
-        (2, 4),
+        bad_graph(4),
         "an edge to nowhere"
     );
     assert_eq!(rt;
         verdict(b"worker source a\nworker source b\nworker sink\nedge 0 2\nedge 1 2\nedge 0 1"),
-        (2, 6),
+        bad_graph(6),
         "into a source"
     );
     assert_eq!(rt;
         verdict(b"worker source a\nworker sink\nworker sink\nedge 0 1\nedge 0 2\nedge 1 2"),
-        (2, 6),
+        bad_graph(6),
         "out of a sink"
     );
     assert_eq!(rt;
         verdict(b"worker source a\nworker sink\nworker sink\nedge 0 1"),
-        (2, 3),
+        bad_graph(3),
         "no edge reaches it"
     );
     assert_eq!(rt;
         verdict(b"worker source a\nworker source b\nworker sink\nedge 0 2"),
-        (2, 2),
+        bad_graph(2),
         "no edge leaves it"
     );
 }
@@ -85,6 +118,6 @@ fn bad_graphs(rt: HostRuntime) {
 fn the_lowest_number_first(rt: HostRuntime) {
     assert_eq!(rt;
         verdict(b"worker sink\nworker sink\nworker sin\nworker si\n"),
-        (1, 3)
+        bad_line(3)
     );
 }
