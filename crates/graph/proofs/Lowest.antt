@@ -1,20 +1,7 @@
 -- The lowest line of what is not proper.
-use Rattle.std.proofs.Common.{◌≡◌, ℕ, ◌+◌, ◌<◌, ◌≤◌, Bool, true, false, cond, ◌&&◌, ltb, List, [], ◌∷◌, length, get_or, drop, Some, None, Option, sym, refl, ap, ◌∙◌, arith}
-use Rattle.std.proofs.lemmas.List.{at_drop_more, at_drop_all}
+use Rattle.std.proofs.Common.{◌≡◌, ℕ, ◌+◌, Bool, true, false, cond, ◌&&◌, ltb, List, [], ◌∷◌, get_or, Some, None, Option, sym, refl, ap, ◌∙◌, arith}
 use Rattle.std.proofs.lemmas.Bool.{and_parts, and_from}
 use Rattle.graph.specs.Faults.{least, lowest}
-
-module _ {X : Type 0} (proper : ℕ → X → Bool) where
-  -- a turn of the loop, and its end
-  pub lowest-turn : (d : X) (ls : List ℕ) (xs : List X) (i : ℕ) (best next out : Option ℕ) (t : Bool) → i < length xs →
-      lowest proper ls i (drop i xs) best ≡ out → t ≡ proper i (get_or xs i d) → next ≡ cond t best (least best (get_or ls i 0)) →
-      lowest proper ls (i + 1) (drop (i + 1) xs) next ≡ out
-  lowest-turn d ls xs i best next out t lt inv is made =
-      ap (lowest proper ls (i + 1) (drop (i + 1) xs)) (made ∙ ap (λ b. cond b best (least best (get_or ls i 0))) is)
-      ∙ (sym (at_drop_more (λ ys. lowest proper ls i ys best) xs i d lt) ∙ inv)
-
-  pub lowest-end : (ls : List ℕ) (xs : List X) (i : ℕ) (best out : Option ℕ) → length xs ≤ i → lowest proper ls i (drop i xs) best ≡ out → best ≡ out
-  lowest-end ls xs i best out le inv = sym (at_drop_all (λ ys. lowest proper ls i ys best) xs i le) ∙ inv
 
 least_some : (best : Option ℕ) (n : ℕ) → least best n ≡ None → ⊥
 least_some None n h = let z : ◌≡◌ {A = ℕ} 0 1 = cc in omega arith
