@@ -9,6 +9,7 @@ use crate::refused::Refused;
 use items::Refusal;
 
 // The graph that a text says, or why it is refused.
+#[tactic(auto, using(crate::proofs::Sound::sound))]
 pub fn read(text: &[u8]) -> Result<Graph, Refused>
     ensures { verdict_of result ≡ verdict text.now }
 {
