@@ -1,11 +1,11 @@
 -- What is known where words were read as something.
 use Rattle.std.proofs.Common.{◌≡◌, ℕ, ◌≤◌, Bool, true, false, cond, ◌⊎◌, List, [], ◌∷◌, Some, None, decimal, Option, refl, ap, ◌∙◌, inl, inr}
 use borrow.Author.Tests.{clash}
-use Rattle.std.specs.Option.{option_map}
+use Rattle.std.specs.Option.{option_map, option_zip}
 use Rattle.std.specs.Str.{bytes_eq}
 use Rattle.std.proofs.lemmas.Slice.Eq.{bytes_eq-Decides}
 use Rattle.text.specs.Number.{most, number_of}
-use Rattle.text.specs.Words.{none_of, one_of, both, two_of, lookup}
+use Rattle.text.specs.Words.{none_of, one_of, two_of, lookup}
 use Rattle.text.proofs.Numbers.{number_is_lem}
 
 module _ {A : Type 0} where
@@ -51,7 +51,7 @@ one_is (w ∷ ws) n h =
     let q = (number_is_lem w n).0 p.1 in
     (ap (λ x. x ∷ ws) q.0 ∙ ap (λ x. decimal n ∷ x) (none_is ws p.0), q.1)
 
-both_from : (a b : Option ℕ) (p : ℕ × ℕ) → both a b ≡ Some p → (a ≡ Some p.0) × (b ≡ Some p.1)
+both_from : (a b : Option ℕ) (p : ℕ × ℕ) → option_zip a b ≡ Some p → (a ≡ Some p.0) × (b ≡ Some p.1)
 both_from None b p h = absurd (not_some p h)
 both_from (Some a) None p h = absurd (not_some p h)
 both_from (Some a) (Some b) p h = let e : (a, b) ≡ p = some_same h in (ap (λ q. Some q.0) e, ap (λ q. Some q.1) e)

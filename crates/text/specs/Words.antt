@@ -1,6 +1,7 @@
 -- The words of a line and the lines of a text.
 use Rattle.std.specs.Prelude.{ℕ, Bool, true, false, cond, List, [], ◌∷◌, Some, None, Option, ◌==◌}
 use Rattle.std.specs.List.{onto_first}
+use Rattle.std.specs.Option.{option_zip}
 use Rattle.std.specs.Borrow.{Bor}
 use Rattle.std.specs.Str.{bytes_eq}
 use Rattle.text.specs.Number.{number_of}
@@ -32,14 +33,9 @@ abbrev pub one_of : List (List ℕ) → Option ℕ
 one_of [] = None
 one_of (w ∷ ws) = cond (none_of ws) (number_of w) None
 
-abbrev pub both : Option ℕ → Option ℕ → Option (ℕ × ℕ)
-both None b = None
-both (Some a) None = None
-both (Some a) (Some b) = Some (a, b)
-
 abbrev pub two_of : List (List ℕ) → Option (ℕ × ℕ)
 two_of [] = None
-two_of (w ∷ ws) = both (number_of w) (one_of ws)
+two_of (w ∷ ws) = option_zip (number_of w) (one_of ws)
 
 -- what a table has for a word
 abbrev pub lookup : {A : Type 0} → List ℕ → List (List ℕ × A) → Option A
