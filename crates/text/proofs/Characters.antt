@@ -1,10 +1,12 @@
 -- Names.
-use Rattle.std.proofs.Common.{Result, Ok, Err, ◌≡◌, ℕ, zero, suc, ◌<◌, ◌≤◌, Bool, true, false, cond, not, eqb, ltb, List, [], ◌∷◌, length, get_or, IsUtf8, Bor, Decides, sym, refl, inl, inr, arith, ltb-true, lt-ltb, ne_eqb}
+use Rattle.std.proofs.Common.{Result, Ok, Err, ◌≡◌, ℕ, ◌<◌, ◌≤◌, Bool, true, false, cond, not, eqb, ltb, List, [], ◌∷◌, length, get_or, IsUtf8, Bor, sym, ap, ◌∙◌, refl, inl, inr, arith, ltb-true, lt-ltb, ne_eqb}
 use borrow.Author.Tests.{clash, eqb-false}
 use Rattle.std.specs.Result.{MatchResult, is_ok}
 use Rattle.std.specs.Str.{is_utf8, IsValidUpTo, valid_up_to}
 use Rattle.std.specs.declared.str.Utf8Error.{Utf8Error}
 use Rattle.std.proofs.lemmas.Bool.{and_parts, and_from, cases_Bool, not_from_false}
+use Rattle.std.proofs.lemmas.List.{get_or_default}
+use Rattle.std.proofs.lemmas.List.Sums.{AllPass-from_list_all, list_all-from_AllPass}
 use Rattle.std.proofs.lemmas.Str.{IsUtf8-from_is_utf8, is_utf8-from_IsUtf8}
 use Rattle.text.specs.Name.{visible, is_name, NameIs}
 use Rattle.text.specs.Laws.{lacks}
@@ -18,13 +20,10 @@ abbrev Visible : List ℕ → Type 0
 Visible w = (i : ℕ) → i < length w → 32 < get_or w i 0
 
 visible_from : (bs : List ℕ) → visible bs ≡ true → Visible bs
-visible_from [] h i l = absurd (omega arith)
-visible_from (b ∷ bs) h zero l = ltb-true 32 b (and_parts (ltb 32 b) (visible bs) h).0
-visible_from (b ∷ bs) h (suc i) l = visible_from bs (and_parts (ltb 32 b) (visible bs) h).1 i (omega arith)
+visible_from bs h i l = ltb-true 32 (get_or bs i 0) (AllPass-from_list_all (ltb 32) bs h i 0 l)
 
 visible_to : (bs : List ℕ) → Visible bs → visible bs ≡ true
-visible_to [] v = refl
-visible_to (b ∷ bs) v = and_from (ltb 32 b) (visible bs) (lt-ltb 32 b (v zero (omega arith))) (visible_to bs (λ i l. v (suc i) (omega arith)))
+visible_to bs v = list_all-from_AllPass (ltb 32) bs (λ i d l. ap (ltb 32) (get_or_default bs i d 0 l) ∙ lt-ltb 32 (get_or bs i 0) (v i l))
 
 pub name_is_lem : NameIs
 name_is_lem w = (forth (eqb (length w) 0) refl (visible w) refl, λ p. back p.0 p.1.0 p.1.1)

@@ -1,9 +1,12 @@
 -- Parts put together and taken apart again.
-use Rattle.std.proofs.Common.{◌≡◌, ℕ, Bool, true, false, cond, not, eqb, ◌⊎◌, List, [], ◌∷◌, ◌++◌, sym, refl, ap, ◌∙◌, inl, inr, arith, ne_eqb, eqb-true}
+use Rattle.std.proofs.Common.{◌≡◌, ℕ, Bool, true, false, cond, not, eqb, ◌⊎◌, List, [], ◌∷◌, ◌++◌, sym, refl, ap, ◌∙◌, inl, inr, ne_eqb, eqb-true}
 use Rattle.std.proofs.lemmas.Bool.{and_parts, and_from, not_from_false}
-use Rattle.text.proofs.Parts.{part_first, word_last}
-use Rattle.text.specs.Words.{onto, parts_of, words_of, lines_of}
-use Rattle.text.specs.Laws.{lacks, all_lack, spaced, joined, ended, WordsJoin, WordsAre, LinesJoin, LinesAre}
+use Rattle.std.proofs.lemmas.List.Folds.{list_all-append}
+use Rattle.std.proofs.lemmas.List.Splits.{join_with_byte-slice_split}
+use Rattle.std.specs.List.{onto_first, join_with_byte}
+use Rattle.text.proofs.Parts.{part_first, word_last, words_split}
+use Rattle.text.specs.Words.{parts_of, lines_of}
+use Rattle.text.specs.Laws.{lacks, all_lack, spaced, ended, WordsJoin, WordsAre, LinesJoin, LinesAre}
 
 pub words_join_lem : WordsJoin
 words_join_lem w [] h = word_last w (and_parts (lacks 32 w) true h).0
@@ -19,10 +22,7 @@ lines_join (l ∷ ls) h =
 
 -- what two parts lack, both together lack
 lacks_both : (e : ℕ) (v w : List ℕ) → lacks e v ≡ true → lacks e w ≡ true → lacks e (v ++ w) ≡ true
-lacks_both e [] w h k = k
-lacks_both e (b ∷ v) w h k =
-    let p = and_parts (not (eqb b e)) (lacks e v) h in
-    and_from (not (eqb b e)) (lacks e (v ++ w)) p.0 (lacks_both e v w p.1 k)
+lacks_both e v w h k = list_all-append (λ b. not (eqb b e)) v w ∙ and_from (lacks e v) (lacks e w) h k
 
 -- words that lack a byte, one space apart, lack it, unless it is a space
 pub lacks_spaced : (e : ℕ) (w : List ℕ) (ws : List (List ℕ)) → (32 ≡ e → ⊥) → all_lack e (w ∷ ws) ≡ true → lacks e (spaced w ws) ≡ true
@@ -37,49 +37,23 @@ parts_lack : (e : ℕ) (base : List (List ℕ)) (bs : List ℕ) → all_lack e b
 parts_lack e base [] h = h
 parts_lack e base (b ∷ bs) h = go (eqb b e) refl (parts_of e base bs) (parts_lack e base bs h)
   where
-    with-one : eqb b e ≡ false → (ws : List (List ℕ)) → all_lack e ws ≡ true → all_lack e (onto b ws) ≡ true
+    with-one : eqb b e ≡ false → (ws : List (List ℕ)) → all_lack e ws ≡ true → all_lack e (onto_first b ws) ≡ true
     with-one other [] k = and_from (lacks e (b ∷ [])) true (and_from (not (eqb b e)) true (not_from_false (eqb b e) other) refl) refl
     with-one other (w ∷ ws) k =
         let p = and_parts (lacks e w) (all_lack e ws) k in
         and_from (lacks e (b ∷ w)) (all_lack e ws) (and_from (not (eqb b e)) (lacks e w) (not_from_false (eqb b e) other) p.0) p.1
 
-    go : (t : Bool) → eqb b e ≡ t → (ws : List (List ℕ)) → all_lack e ws ≡ true → all_lack e (cond t ([] ∷ ws) (onto b ws)) ≡ true
+    go : (t : Bool) → eqb b e ≡ t → (ws : List (List ℕ)) → all_lack e ws ≡ true → all_lack e (cond t ([] ∷ ws) (onto_first b ws)) ≡ true
     go true is ws k = k
     go false is ws k = with-one is ws k
 
-joined_onto : (b : ℕ) (ws : List (List ℕ)) → joined (onto b ws) ≡ b ∷ joined ws
-joined_onto b [] = refl
-joined_onto b (w ∷ []) = refl
-joined_onto b (w ∷ v ∷ vs) = refl
-
-joined_space : (w : List ℕ) (ws : List (List ℕ)) → joined ([] ∷ w ∷ ws) ≡ 32 ∷ joined (w ∷ ws)
-joined_space w ws = refl
-
-some_word : (bs : List ℕ) → words_of bs ≡ [] → ⊥
-some_word [] h = let z : ◌≡◌ {A = ℕ} 0 1 = cc in omega arith
-some_word (b ∷ bs) h = go (eqb b 32) (parts_of 32 ([] ∷ []) bs) h
-  where
-    go : (t : Bool) (ws : List (List ℕ)) → cond t ([] ∷ ws) (onto b ws) ≡ [] → ⊥
-    go true ws k = let z : ◌≡◌ {A = ℕ} 0 1 = cc in omega arith
-    go false [] k = let z : ◌≡◌ {A = ℕ} 0 1 = cc in omega arith
-    go false (w ∷ ws) k = let z : ◌≡◌ {A = ℕ} 0 1 = cc in omega arith
-
-words_joined : (l : List ℕ) → joined (words_of l) ≡ l
-words_joined [] = refl
-words_joined (b ∷ bs) = go (eqb b 32) refl (words_of bs) (some_word bs) (words_joined bs)
-  where
-    go : (t : Bool) → eqb b 32 ≡ t → (ws : List (List ℕ)) → (ws ≡ [] → ⊥) → joined ws ≡ bs → joined (cond t ([] ∷ ws) (onto b ws)) ≡ b ∷ bs
-    go true is [] some h = absurd (some refl)
-    go true is (w ∷ ws) some h = joined_space w ws ∙ (ap (λ x. 32 ∷ x) h ∙ ap (λ x. x ∷ bs) (sym (eqb-true b 32 is)))
-    go false is ws some h = joined_onto b ws ∙ ap (λ x. b ∷ x) h
-
 pub words_are : WordsAre
-words_are l = (parts_lack 32 ([] ∷ []) l refl, words_joined l)
+words_are l = (parts_lack 32 ([] ∷ []) l refl, ap (join_with_byte 32) (words_split l) ∙ join_with_byte-slice_split 32 l)
 
 abbrev Ended : List ℕ → List (List ℕ) → Type 0
 Ended t ls = (ended ls ≡ t) ⊎ (ended ls ≡ t ++ 10 ∷ [])
 
-with_byte : (b : ℕ) (bs : List ℕ) (ls : List (List ℕ)) → (ls ≡ [] → bs ≡ []) → Ended bs ls → Ended (b ∷ bs) (onto b ls)
+with_byte : (b : ℕ) (bs : List ℕ) (ls : List (List ℕ)) → (ls ≡ [] → bs ≡ []) → Ended bs ls → Ended (b ∷ bs) (onto_first b ls)
 with_byte b bs [] none h = inr (ap (λ x. b ∷ (x ++ 10 ∷ [])) (sym (none refl)))
 with_byte b bs (w ∷ ls) none (inl h) = inl (ap (λ x. b ∷ x) h)
 with_byte b bs (w ∷ ls) none (inr h) = inr (ap (λ x. b ∷ x) h)
@@ -88,19 +62,19 @@ no_line : (bs : List ℕ) → lines_of bs ≡ [] → bs ≡ []
 no_line [] h = refl
 no_line (b ∷ bs) h = absurd (go (eqb b 10) (parts_of 10 [] bs) h)
   where
-    go : (t : Bool) (ls : List (List ℕ)) → cond t ([] ∷ ls) (onto b ls) ≡ [] → ⊥
-    go true ls k = let z : ◌≡◌ {A = ℕ} 0 1 = cc in omega arith
-    go false [] k = let z : ◌≡◌ {A = ℕ} 0 1 = cc in omega arith
-    go false (w ∷ ls) k = let z : ◌≡◌ {A = ℕ} 0 1 = cc in omega arith
+    go : (t : Bool) (ls : List (List ℕ)) → cond t ([] ∷ ls) (onto_first b ls) ≡ [] → ⊥
+    go true ls k = cc
+    go false [] k = cc
+    go false (w ∷ ls) k = cc
 
 lines_ended : (t : List ℕ) → Ended t (lines_of t)
 lines_ended [] = inl refl
 lines_ended (b ∷ bs) = go (eqb b 10) refl (lines_of bs) (no_line bs) (lines_ended bs)
   where
-    go : (t : Bool) → eqb b 10 ≡ t → (ls : List (List ℕ)) → (ls ≡ [] → bs ≡ []) → Ended bs ls → Ended (b ∷ bs) (cond t ([] ∷ ls) (onto b ls))
+    go : (t : Bool) → eqb b 10 ≡ t → (ls : List (List ℕ)) → (ls ≡ [] → bs ≡ []) → Ended bs ls → Ended (b ∷ bs) (cond t ([] ∷ ls) (onto_first b ls))
     go true is ls none (inl h) = inl (ap (λ x. 10 ∷ x) h ∙ ap (λ x. x ∷ bs) (sym (eqb-true b 10 is)))
     go true is ls none (inr h) = inr (ap (λ x. 10 ∷ x) h ∙ ap (λ x. x ∷ (bs ++ 10 ∷ [])) (sym (eqb-true b 10 is)))
     go false is ls none h = with_byte b bs ls none h
 
-pub lines_are : LinesAre
-lines_are t = (parts_lack 10 [] t refl, lines_ended t)
+pub lines_are_lem : LinesAre
+lines_are_lem t = (parts_lack 10 [] t refl, lines_ended t)

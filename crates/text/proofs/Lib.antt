@@ -1,4 +1,3 @@
-pub mod Turns
 pub mod Parts
 pub mod Characters
 pub mod Numbers

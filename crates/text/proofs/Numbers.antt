@@ -20,12 +20,9 @@ value_of v (b ∷ bs) = value_of (v * 10 + (b - 48)) bs
 own : IsNumeralModel AllDigits (value_of 0)
 own = numerals_by_fold AllDigits (search rules) value_of (search rules)
 
-some_not_none : (n : ℕ) → None ≡ Some n → ⊥
-some_not_none n h = let z : ◌≡◌ {A = ℕ} 0 1 = cc in omega arith
-
 -- what was read passed a test
 chosen : (t : Bool) (o : Option ℕ) (bs : List ℕ) (n : ℕ) → digits (cond t None o) bs ≡ Some n → (t ≡ false) × (digits o bs ≡ Some n)
-chosen true o bs n h = absurd (some_not_none n (sym (fold_stays read_on None (λ b. refl) bs) ∙ h))
+chosen true o bs n h = let k : ◌≡◌ {A = Option ℕ} None (Some n) = sym (fold_stays read_on None (λ b. refl) bs) ∙ h in absurd cc
 chosen false o bs n h = (refl, h)
 
 read_is : (bs : List ℕ) (v n : ℕ) → v ≤ most → digits (Some v) bs ≡ Some n → (AllDigits bs × (n ≡ value_of v bs)) × (n ≤ most)
@@ -56,7 +53,7 @@ unpadded : (w : List ℕ) (n : ℕ) → cond (padded w) None (digits (Some 0) w)
 unpadded w n h = go (padded w) refl h
   where
     go : (t : Bool) → padded w ≡ t → cond t None (digits (Some 0) w) ≡ Some n → (padded w ≡ false) × (digits (Some 0) w ≡ Some n)
-    go true is k = absurd (some_not_none n k)
+    go true is k = absurd cc
     go false is k = (is, k)
 
 needed : (w : List ℕ) → padded w ≡ false → (0 < length w) × (get_or w 0 0 ≡ 48 → length w ≡ 1)
@@ -94,8 +91,8 @@ number_back n le =
     let l : value_of 0 (decimal n) ≤ most = omega (arith, v) in
     rw p (reads (decimal n) 0 (digits_decimal own n fits) l ∙ ap Some v)
 
-pub number_is : NumberIs
-number_is w n = (forth w n, λ le is. ap number_of is ∙ number_back n le)
+pub number_is_lem : NumberIs
+number_is_lem w n = (forth w n, λ le is. ap number_of is ∙ number_back n le)
 
 -- digits are neither spaces nor line feeds
 digits_lack : (e : ℕ) (bs : List ℕ) → e < 48 → AllDigits bs → lacks e bs ≡ true

@@ -1,16 +1,16 @@
 -- What is known where words were read as something.
-use Rattle.std.proofs.Common.{◌≡◌, ℕ, ◌≤◌, Bool, true, false, cond, ◌⊎◌, List, [], ◌∷◌, Some, None, decimal, Option, refl, ap, ◌∙◌, inl, inr, arith}
+use Rattle.std.proofs.Common.{◌≡◌, ℕ, ◌≤◌, Bool, true, false, cond, ◌⊎◌, List, [], ◌∷◌, Some, None, decimal, Option, refl, ap, ◌∙◌, inl, inr}
 use borrow.Author.Tests.{clash}
-use Rattle.std.specs.Option.{option_map}
+use Rattle.std.specs.Option.{option_map, option_zip}
 use Rattle.std.specs.Str.{bytes_eq}
 use Rattle.std.proofs.lemmas.Slice.Eq.{bytes_eq-Decides}
 use Rattle.text.specs.Number.{most, number_of}
-use Rattle.text.specs.Words.{none_of, one_of, both, two_of, lookup}
-use Rattle.text.proofs.Numbers.{number_is}
+use Rattle.text.specs.Words.{none_of, one_of, two_of, lookup}
+use Rattle.text.proofs.Numbers.{number_is_lem}
 
 module _ {A : Type 0} where
   pub not_some : (a : A) → None ≡ Some a → ⊥
-  not_some a h = let z : ◌≡◌ {A = ℕ} 0 1 = cc in omega arith
+  not_some a h = cc
 
   pub some_same : {a b : A} → Some a ≡ Some b → a ≡ b
   some_same h = cc
@@ -48,10 +48,10 @@ pub one_is : (ws : List (List ℕ)) (n : ℕ) → one_of ws ≡ Some n → (ws �
 one_is [] n h = absurd (not_some n h)
 one_is (w ∷ ws) n h =
     let p = only-way (none_of ws) (number_of w) n h in
-    let q = (number_is w n).0 p.1 in
+    let q = (number_is_lem w n).0 p.1 in
     (ap (λ x. x ∷ ws) q.0 ∙ ap (λ x. decimal n ∷ x) (none_is ws p.0), q.1)
 
-both_from : (a b : Option ℕ) (p : ℕ × ℕ) → both a b ≡ Some p → (a ≡ Some p.0) × (b ≡ Some p.1)
+both_from : (a b : Option ℕ) (p : ℕ × ℕ) → option_zip a b ≡ Some p → (a ≡ Some p.0) × (b ≡ Some p.1)
 both_from None b p h = absurd (not_some p h)
 both_from (Some a) None p h = absurd (not_some p h)
 both_from (Some a) (Some b) p h = let e : (a, b) ≡ p = some_same h in (ap (λ q. Some q.0) e, ap (λ q. Some q.1) e)
@@ -60,6 +60,6 @@ pub two_is : (ws : List (List ℕ)) (p : ℕ × ℕ) → two_of ws ≡ Some p �
 two_is [] p h = absurd (not_some p h)
 two_is (w ∷ ws) p h =
     let q = both_from (number_of w) (one_of ws) p h in
-    let a = (number_is w p.0).0 q.0 in
+    let a = (number_is_lem w p.0).0 q.0 in
     let b = one_is ws p.1 q.1 in
     (ap (λ x. x ∷ ws) a.0 ∙ ap (λ x. decimal p.0 ∷ x) b.0, (a.1, b.1))

@@ -1,5 +1,6 @@
 -- What reading promises in the words of writing.
-use Rattle.std.specs.Prelude.{◌≡◌, ℕ, ◌≤◌, Bool, true, not, ◌&&◌, ◌⊎◌, List, [], ◌∷◌, ◌++◌, Some, decimal, ◌==◌}
+use Rattle.std.specs.Prelude.{◌≡◌, ℕ, ◌≤◌, Bool, true, not, ◌⊎◌, List, [], ◌∷◌, ◌++◌, Some, decimal, ◌==◌}
+use Rattle.std.specs.List.{list_all, join_with_byte}
 use Rattle.text.specs.Number.{most, number_of}
 use Rattle.text.specs.Words.{words_of, lines_of}
 
@@ -9,21 +10,17 @@ NumberIs = (w : List ℕ) (n : ℕ) → (number_of w ≡ Some n → (w ≡ decim
 
 -- the byte e does not stand among some
 abbrev pub lacks : ℕ → List ℕ → Bool
-lacks e [] = true
-lacks e (b ∷ bs) = not (b == e) && lacks e bs
+lacks e bs = list_all (λ b. not (b == e)) bs
 
 abbrev pub all_lack : ℕ → List (List ℕ) → Bool
-all_lack e [] = true
-all_lack e (w ∷ ws) = lacks e w && all_lack e ws
+all_lack e ws = list_all (λ w. lacks e w) ws
 
 -- words with one space between each two, the first one given
 abbrev pub spaced : List ℕ → List (List ℕ) → List ℕ
-spaced w [] = w
-spaced w (v ∷ vs) = w ++ 32 ∷ spaced v vs
+spaced w ws = join_with_byte 32 (w ∷ ws)
 
 abbrev pub joined : List (List ℕ) → List ℕ
-joined [] = []
-joined (w ∷ ws) = spaced w ws
+joined ws = join_with_byte 32 ws
 
 -- Words without spaces, put one space apart, are the words of that line.
 abbrev pub WordsJoin : Type 0

@@ -1,5 +1,5 @@
 -- A file's name as one word: UTF-8, not empty, every byte above a space.
-use Rattle.std.specs.Prelude.{ℕ, ◌<◌, Bool, true, false, cond, List, length, IsUtf8, Decides, ◌==◌, nat_lt, slice_index}
+use Rattle.std.specs.Prelude.{ℕ, ◌<◌, Bool, false, cond, List, length, IsUtf8, Decides, ◌==◌, nat_lt, slice_index}
 use Rattle.std.specs.List.{list_all}
 use Rattle.std.specs.Str.{is_utf8}
 

@@ -1,18 +1,15 @@
 -- The words of a line and the lines of a text.
 use Rattle.std.specs.Prelude.{ℕ, Bool, true, false, cond, List, [], ◌∷◌, Some, None, Option, ◌==◌}
+use Rattle.std.specs.List.{onto_first}
+use Rattle.std.specs.Option.{option_zip}
 use Rattle.std.specs.Borrow.{Bor}
 use Rattle.std.specs.Str.{bytes_eq}
 use Rattle.text.specs.Number.{number_of}
 
--- a byte put before the first of some parts
-abbrev pub onto : ℕ → List (List ℕ) → List (List ℕ)
-onto b [] = (b ∷ []) ∷ []
-onto b (w ∷ ws) = (b ∷ w) ∷ ws
-
 -- the parts of some bytes, each ended by the byte e; base is what an end without bytes adds
 abbrev pub parts_of : ℕ → List (List ℕ) → List ℕ → List (List ℕ)
 parts_of e base [] = base
-parts_of e base (b ∷ bs) = cond (b == e) ([] ∷ parts_of e base bs) (onto b (parts_of e base bs))
+parts_of e base (b ∷ bs) = cond (b == e) ([] ∷ parts_of e base bs) (onto_first b (parts_of e base bs))
 
 -- a line has a word more than spaces
 abbrev pub words_of : List ℕ → List (List ℕ)
@@ -36,14 +33,9 @@ abbrev pub one_of : List (List ℕ) → Option ℕ
 one_of [] = None
 one_of (w ∷ ws) = cond (none_of ws) (number_of w) None
 
-abbrev pub both : Option ℕ → Option ℕ → Option (ℕ × ℕ)
-both None b = None
-both (Some a) None = None
-both (Some a) (Some b) = Some (a, b)
-
 abbrev pub two_of : List (List ℕ) → Option (ℕ × ℕ)
 two_of [] = None
-two_of (w ∷ ws) = both (number_of w) (one_of ws)
+two_of (w ∷ ws) = option_zip (number_of w) (one_of ws)
 
 -- what a table has for a word
 abbrev pub lookup : {A : Type 0} → List ℕ → List (List ℕ × A) → Option A

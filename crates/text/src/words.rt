@@ -117,11 +117,8 @@ impl<'a> Iterator for Lines<'a> {
     ghost remaining = { item_count (λ lines. lines) };
 
     fn next(&mut self) -> Option<&'a [u8]> {
-        if self.rest.is_empty() {
-            return None;
-        }
-        let (line, rest) = cut(self.rest, LINE_FEED);
-        self.rest = rest.unwrap_or(&[]);
+        let (line, rest) = next_line(self.rest)?;
+        self.rest = rest;
         Some(line)
     }
 }
