@@ -123,6 +123,18 @@ impl<'a> Iterator for Lines<'a> {
     }
 }
 
+// The first line of a text, and what is left after its line feed; nothing where no line is left.
+pub fn next_line(text: &[u8]) -> Option<(&[u8], &[u8])>
+    ensures is { MatchOption result (lines_of text.now ≡ []) (λ p. lines_of text.now ≡ p.0.now ∷ lines_of p.1.now) }
+    ensures shorter { MatchOption result (length text.now ≡ 0) (λ p. length p.1.now < length text.now) }
+{
+    if text.is_empty() {
+        return None;
+    }
+    let (line, rest) = cut(text, LINE_FEED);
+    Some((line, rest.unwrap_or(&[])))
+}
+
 // Line n of a text, counted from 0; empty where there is none.
 pub fn line_at(text: &[u8], n: usize) -> &[u8]
     ensures { result.now ≡ slice_index_or (lines_of text.now) n [] }
