@@ -1,5 +1,5 @@
 -- What stands in the bytes of a journal.
-use Rattle.std.specs.Prelude.{◌≡◌, ℕ, zero, suc, ◌+◌, ◌*◌, ◌/◌, ◌%◌, ◌<◌, Bool, true, false, cond, ◌&&◌, List, [], ◌∷◌, ◌++◌, length, take, drop, Some, None, Option, Ok, Err, Result, ◌==◌, ◌≢◌, nat_lt, slice_index, slice_index_or}
+use Rattle.std.specs.Prelude.{◌≡◌, ℕ, zero, suc, ◌+◌, ◌*◌, ◌/◌, ◌%◌, ◌<◌, Bool, true, false, if◌then◌else◌, ◌&&◌, List, [], ◌∷◌, ◌++◌, length, take, drop, Some, None, Option, Ok, Err, Result, ◌==◌, ◌≢◌, nat_lt, slice_index, slice_index_or}
 use Rattle.items.specs.declared.Item.{Item}
 use Rattle.items.specs.declared.Item.TheVariants.{Record as ARecord, Watermark, Barrier}
 use Rattle.items.specs.declared.journal.NoItem.{NoItem}
@@ -13,15 +13,20 @@ big_at bs p = slice_index bs p * 16777216 + slice_index bs (p + 1) * 65536 + sli
 abbrev pub Reading : Type 0
 Reading = Result (Item × ℕ) NoItem
 
+-- a record, or a watermark, behind the byte that says so
+abbrev pub record_in : List ℕ → Reading
+record_in bs = if nat_lt (length bs) 12 then Err NotYet else Ok (ARecord (record { key = big_at bs 0; time = big_at bs 4; amount = big_at bs 8 }), 13)
+
+abbrev pub watermark_in : List ℕ → Reading
+watermark_in bs = if nat_lt (length bs) 4 then Err NotYet else Ok (Watermark (big_at bs 0), 5)
+
 -- what comes first: an item; one that is cut short; or one of an unknown kind
 abbrev pub first_of : List ℕ → Reading
 first_of [] = Err NotYet
 first_of (kind ∷ bs) =
-    cond (kind == 1)
-    (cond (nat_lt (length bs) 12) (Err NotYet) (Ok (ARecord (record { key = big_at bs 0; time = big_at bs 4; amount = big_at bs 8 }), 13)))
-    (cond (kind == 2)
-    (cond (nat_lt (length bs) 4) (Err NotYet) (Ok (Watermark (big_at bs 0), 5)))
-    (Err Unknown))
+    if kind == 1 then record_in bs
+    else if kind == 2 then watermark_in bs
+    else Err Unknown
 
 -- what comes first behind an item
 abbrev pub behind : (List ℕ → Reading) → List ℕ → Reading → Reading

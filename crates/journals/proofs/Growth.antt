@@ -1,7 +1,7 @@
 -- A reader's journal, from one moment to a later one.
-use Rattle.std.proofs.Common.{◌≡◌, ℕ, List, [], ◌++◌, sym, ap, ◌∙◌, append_assoc, append-nil}
+use Rattle.std.proofs.Common.{sym, ap, ◌∙◌}
 use Rattle.items.proofs.Growing.{growing_keeps_lem}
-use Rattle.journals.specs.Handing.{Grew, ItemStays, told}
+use Rattle.journals.specs.Handing.{ItemStays, told}
 
 pub item_stays_lem : ItemStays
 item_stays_lem n journal more i h =

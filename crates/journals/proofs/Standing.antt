@@ -1,10 +1,10 @@
 -- Where a reader stands in its journal.
-use Rattle.std.proofs.Common.{◌≡◌, ℕ, suc, ◌+◌, ◌-◌, ◌<◌, false, List, ◌++◌, length, take, drop, Some, Ok, Err, sym, refl, ap, ◌∙◌, arith}
+use Rattle.std.proofs.Common.{◌≡◌, ℕ, suc, ◌+◌, ◌-◌, ◌<◌, false, List, ◌++◌, length, take, drop, Some, Ok, Err, is_some, sym, refl, ap, ◌∙◌, arith}
 use Rattle.std.proofs.lemmas.List.{drop_at, take_rest}
 use Rattle.items.specs.declared.journal.NoItem.{NoItem}
 use Rattle.items.specs.Journal.{Reading, first_of, reading_at, rest_at}
 use Rattle.items.proofs.Skipping.{rest_add, rest_grows, rest_reads}
-use Rattle.journals.specs.Handing.{is_there, has, told, entry_at, Found, Took, Reached}
+use Rattle.journals.specs.Handing.{has, told, entry_at, Found, Took, Reached}
 use Rattle.journals.specs.declared.stop.Stop.{Stop}
 use Rattle.journals.specs.declared.stop.Stop.TheVariants.{NotYet as StopNotYet, Unknown as StopUnknown, TooMany, Failed}
 
@@ -38,7 +38,7 @@ no_more m n journal bs s there none lt =
     let d : m + suc (n - m - 1) ≡ n = omega arith in
     let first = (told_none (reading_at m journal) s none).1 in
     let r = sym (rest_reads m journal bs there) ∙ first in
-    ap (λ (k : ℕ). has k journal) (sym d) ∙ ap is_there (rest_add m (suc (n - m - 1)) journal bs there) ∙ rw r refl
+    ap (λ (k : ℕ). has k journal) (sym d) ∙ ap is_some (rest_add m (suc (n - m - 1)) journal bs there) ∙ rw r refl
 
 -- a reader that is on its way to number n stops where no item comes
 pub stops : (m n m' : ℕ) (journal bs : List ℕ) (s : Stop) → Took (Err s) m journal m' → rest_at m' journal ≡ Some bs → m < n → Reached (Err s) n journal m'

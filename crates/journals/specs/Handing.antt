@@ -1,5 +1,5 @@
 -- What a reader holds of a journal, and where it stands in it.
-use Rattle.std.specs.Prelude.{◌≡◌, ℕ, ◌+◌, Bool, true, false, List, ◌++◌, length, Some, None, Ok, Err, Option, Result}
+use Rattle.std.specs.Prelude.{◌≡◌, ℕ, ◌+◌, Bool, true, false, List, ◌++◌, length, Ok, Err, Result, is_some}
 use Rattle.items.specs.declared.Item.{Item}
 use Rattle.items.specs.declared.journal.NoItem.{NoItem}
 use Rattle.items.specs.declared.journal.NoItem.TheVariants.{NotYet, Unknown}
@@ -13,12 +13,8 @@ Came (Ok n) held held' given given' = (more : List ℕ) × (length more ≡ n) �
 Came (Err e) held held' given given' = (held' ≡ held) × (given' ≡ given)
 
 -- n items of a journal are there
-abbrev pub is_there : Option (List ℕ) → Bool
-is_there (Some bs) = true
-is_there None = false
-
 abbrev pub has : ℕ → List ℕ → Bool
-has n journal = is_there (rest_at n journal)
+has n journal = is_some (rest_at n journal)
 
 -- a journal grew by what its source gave
 abbrev pub Grew : (journal given journal' given' : List ℕ) → Type 0

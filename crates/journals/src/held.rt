@@ -1,5 +1,5 @@
 // The bytes of a journal that were given and not yet taken.
-ghost use Rattle.std.specs.Prelude.{◌≡◌, ◌<◌, ◌≤◌, true, [], length, drop, is_err, IfOk};
+ghost use Rattle.std.specs.Prelude.{◌≡◌, ◌<◌, ◌≤◌, true, [], length, drop, IfOk, OnErr};
 ghost use Rattle.journals.specs.Handing.{Came};
 
 use sources::Source;
@@ -26,7 +26,8 @@ impl Model for Held {
 
     ghost view = { λ h. between h.start h.end h.buffer.items };
 
-    ghost invariant = { λ h. (13 ≤ length h.buffer.items) × (h.start ≤ h.end) × (h.end ≤ length h.buffer.items) };
+    ghost invariant = { λ h.
+        (13 ≤ length h.buffer.items) × (h.start ≤ h.end) × (h.end ≤ length h.buffer.items) };
 }
 
 impl Held {
@@ -66,9 +67,10 @@ impl Held {
     // Moves them to the front, where they are too few for an item, reads on behind them, and says how many bytes came.
     pub(crate) fn fill<S: Source>(&mut self, source: &mut S) -> io::Result<usize>
         requires { length self.old < 13 }
-        ensures failed { is_err result ≡ true → S.Source.failed source.new ≡ true }
+        ensures failed { OnErr result (S.Source.failed source.new ≡ true) }
         ensures ended { IfOk result (λ n. (n ≡ 0 → S.Source.ended source.new ≡ true)) }
-        ensures came { Came result self.old self.new (S.Source.given source.old) (S.Source.given source.new) }
+        ensures came { Came result self.old self.new
+            (S.Source.given source.old) (S.Source.given source.new) }
     {
         self.buffer.copy_within(self.start..self.end, 0);
         self.end -= self.start;

@@ -1,4 +1,4 @@
-ghost use Rattle.std.specs.Prelude.{◌≡◌, ℕ, ◌<◌, true, List, [], ◌++◌, length, is_err, IfOk, IfErr, OnOk};
+ghost use Rattle.std.specs.Prelude.{◌≡◌, ℕ, ◌<◌, true, List, [], ◌++◌, length, IfOk, IfErr, OnErr, OnOk};
 ghost use Rattle.items.specs.Journal.{first_of};
 ghost use Rattle.journals.specs.Handing.{Found, Grew, Reached, Says, Took};
 
@@ -30,8 +30,9 @@ impl<S: Source> Reader<S> {
     // Reads on behind what is held, which is no item yet, and says how many bytes came.
     fn fill(&mut self) -> io::Result<usize>
         requires { length self.old.held < 13 }
-        ensures failed { is_err result ≡ true → S.Source.failed self.new.source ≡ true }
-        ensures more { IfOk result (λ n. (more : List ℕ) × (length more ≡ n) × (self.new.held ≡ self.old.held ++ more)) }
+        ensures failed { OnErr result (S.Source.failed self.new.source ≡ true) }
+        ensures more { IfOk result (λ n.
+            (more : List ℕ) × (length more ≡ n) × (self.new.held ≡ self.old.held ++ more)) }
         ensures ended { IfOk result (λ n. (n ≡ 0 → S.Source.ended self.new.source ≡ true)) }
         ensures stays { self.new.number ≡ self.old.number }
         ensures grew { Grew self.old.journal.bytes (S.Source.given self.old.source)
@@ -46,7 +47,8 @@ impl<S: Source> Reader<S> {
     // The item that comes next, and how many bytes it takes, which are held then.
     fn first(&mut self) -> Result<(Item, usize), Stop>
         ensures found { Found result (first_of self.new.held) }
-        ensures says { IfErr result (λ stop. Says stop (S.Source.failed self.new.source) (S.Source.ended self.new.source)) }
+        ensures says { IfErr result (λ stop.
+            Says stop (S.Source.failed self.new.source) (S.Source.ended self.new.source)) }
         ensures stays { self.new.number ≡ self.old.number }
         ensures grew { Grew self.old.journal.bytes (S.Source.given self.old.source)
             self.new.journal.bytes (S.Source.given self.new.source) }
@@ -68,7 +70,8 @@ impl<S: Source> Reader<S> {
     // kind, stays the next.
     pub fn next(&mut self) -> Result<Item, Stop>
         ensures reads { Took result self.old.number self.new.journal.bytes self.new.number }
-        ensures says { IfErr result (λ stop. Says stop (S.Source.failed self.new.source) (S.Source.ended self.new.source)) }
+        ensures says { IfErr result (λ stop.
+            Says stop (S.Source.failed self.new.source) (S.Source.ended self.new.source)) }
         ensures grew { Grew self.old.journal.bytes (S.Source.given self.old.source)
             self.new.journal.bytes (S.Source.given self.new.source) }
     {
@@ -84,7 +87,7 @@ impl<S: Source> Reader<S> {
     // Back to the beginning of the journal.
     #[tactic(auto, unfolding(items::specs::Journal::rest_at))]
     fn restart(&mut self) -> io::Result<()>
-        ensures failed { is_err result ≡ true → S.Source.failed self.new.source ≡ true }
+        ensures failed { OnErr result (S.Source.failed self.new.source ≡ true) }
         ensures begun { OnOk result (self.new.number ≡ 0) }
         ensures tied { S.Source.given self.old.source ≡ self.old.journal.bytes
             → S.Source.given self.new.source ≡ self.new.journal.bytes }
@@ -99,7 +102,8 @@ impl<S: Source> Reader<S> {
     // To the item with a number, which comes next then; or why not so many items are there.
     pub fn skip_to(&mut self, number: u64) -> Result<(), Stop>
         ensures reached { Reached result number self.new.journal.bytes self.new.number }
-        ensures says { IfErr result (λ stop. Says stop (S.Source.failed self.new.source) (S.Source.ended self.new.source)) }
+        ensures says { IfErr result (λ stop.
+            Says stop (S.Source.failed self.new.source) (S.Source.ended self.new.source)) }
         ensures tied { S.Source.given self.old.source ≡ self.old.journal.bytes
             → S.Source.given self.new.source ≡ self.new.journal.bytes }
     {

@@ -1,4 +1,4 @@
-ghost use Rattle.std.specs.Prelude.{◌≡◌, ℕ, ◌<◌, Bool, true, List, [], length, is_err, IfOk, MatchResult};
+ghost use Rattle.std.specs.Prelude.{◌≡◌, ℕ, ◌<◌, Bool, true, List, [], length, IfOk, MatchResult, OnErr};
 ghost use Rattle.sources.specs.Handing.{Handed};
 
 use std::io;
@@ -17,11 +17,11 @@ pub trait Source {
     // Puts the bytes that follow into the front of `into`, and says how many; none where there are no more for now.
     fn read(&mut self, into: &mut [u8]) -> io::Result<usize>
         ensures handed { Handed result (given self.old) (given self.new) into.new }
-        ensures failed { is_err result ≡ true → failed self.new ≡ true }
+        ensures failed { OnErr result (failed self.new ≡ true) }
         ensures ended { IfOk result (λ n. (n ≡ 0 → 0 < length into.old → ended self.new ≡ true)) };
 
     // Back to the journal's beginning.
     fn rewind(&mut self) -> io::Result<()>
-        ensures failed { is_err result ≡ true → failed self.new ≡ true }
+        ensures failed { OnErr result (failed self.new ≡ true) }
         ensures begun { MatchResult result (λ _. given self.new ≡ []) (λ _. given self.new ≡ given self.old) };
 }
