@@ -1,5 +1,5 @@
 -- Items more on an edge, in the slots behind its items.
-use Rattle.std.proofs.Common.{◌≡◌, ℕ, ◌+◌, ◌*◌, ◌<◌, ◌≤◌, List, ◌++◌, length, get_or, set, Ok, Err, sym, refl, ap, ◌∙◌, arith}
+use Rattle.std.proofs.Common.{◌≡◌, ℕ, ◌+◌, ◌*◌, ◌<◌, ◌≤◌, List, ◌++◌, length, set, Ok, Err, sym, refl, ap, ◌∙◌, arith}
 use Rattle.std.proofs.lemmas.Bool.{le-leb, lt-leb}
 use Rattle.items.specs.declared.Item.{Item}
 use Rattle.items.specs.declared.Refusal.TheVariants.{NoRoom}
@@ -7,29 +7,29 @@ use Rattle.edges.specs.declared.fault.Fault.TheVariants.{Refused}
 use Rattle.edges.specs.declared.head.Head.{Head}
 use Rattle.edges.specs.declared.state.Edges.{Edges}
 use Rattle.edges.specs.Queues.{on, added}
-use Rattle.edges.specs.Held.{item_at, items_from, queue_of, queues_from, edges_of}
+use Rattle.edges.specs.Held.{IsHead, item_at, items_from, queue_of, queues_from, edges_of}
 use Rattle.edges.proofs.Slots.{items_same, items_append}
 use Rattle.edges.proofs.Numbered.{edge_set, held_at, length_at, behind}
 
 -- n slots behind the items were written, or hold what is to be added already; g is the new head
-pub added_is : (ws vs : List ℕ) (q : Edges) (e n : ℕ) (d g : Head) (xs : List Item) → e < q.count → e < length q.heads →
-    g.start ≡ (get_or q.heads e d).start → g.len ≡ (get_or q.heads e d).len + n → length xs ≡ n → items_from vs (behind q e d) n ≡ xs →
-    ((j : ℕ) → ((behind q e d ≤ j) × (j < behind q e d + n) → ⊥) → item_at vs j ≡ item_at ws j) →
+pub added_is : (ws vs : List ℕ) (q : Edges) (e n : ℕ) (h g : Head) (xs : List Item) → IsHead q e h → e < length q.heads →
+    g.start ≡ h.start → g.len ≡ h.len + n → length xs ≡ n → items_from vs (behind e h) n ≡ xs →
+    ((j : ℕ) → ((behind e h ≤ j) × (j < behind e h + n) → ⊥) → item_at vs j ≡ item_at ws j) →
     added (edges_of ws q) e xs ≡ Ok (queues_from vs (set q.heads e g) 0 q.count)
-added_is ws vs q e n d g xs lt le start len many put others =
-    let h : Head = get_or q.heads e d in
-    let l : length (on (edges_of ws q) e) ≡ h.len = length_at ws q e d lt le in
+added_is ws vs q e n h g xs at le start len many put others =
+    let l : length (on (edges_of ws q) e) ≡ h.len = length_at ws q e h at in
     let kept : items_from vs (516 * e + h.start) h.len ≡ on (edges_of ws q) e =
     items_same vs ws (516 * e + h.start) (516 * e + h.start) h.len
     (λ a b low high s. let same : a ≡ b = omega arith in others a (λ r. omega (arith, r.0)) ∙ ap (item_at ws) same)
-    ∙ sym (held_at ws q e d lt le) in
+    ∙ sym (held_at ws q e h at) in
     let here : queue_of vs e g ≡ on (edges_of ws q) e ++ xs =
     rw (start, len) (items_append vs (516 * e + h.start) h.len n ∙ rw (kept, put) refl) in
     rw (le-leb (length (on (edges_of ws q) e) + length xs) 256 (omega arith))
-    (ap Ok (sym (edge_set ws vs q.heads q.count e g (on (edges_of ws q) e ++ xs) lt le here (λ j apart. others j (λ r. omega (arith, r.0, r.1))))))
+    (ap Ok (sym (edge_set ws vs q.heads q.count e g (on (edges_of ws q) e ++ xs) at.there le here
+    (λ j apart. others j (λ r. omega (arith, r.0, r.1))))))
 
-pub added_not : (ws : List ℕ) (q : Edges) (e : ℕ) (d : Head) (xs : List Item) → e < q.count → e < length q.heads →
-    256 < (get_or q.heads e d).len + length xs → added (edges_of ws q) e xs ≡ Err (Refused NoRoom)
-added_not ws q e d xs lt le more =
-    let l : length (on (edges_of ws q) e) ≡ (get_or q.heads e d).len = length_at ws q e d lt le in
+pub added_not : (ws : List ℕ) (q : Edges) (e : ℕ) (h : Head) (xs : List Item) → IsHead q e h →
+    256 < h.len + length xs → added (edges_of ws q) e xs ≡ Err (Refused NoRoom)
+added_not ws q e h xs at more =
+    let l : length (on (edges_of ws q) e) ≡ h.len = length_at ws q e h at in
     rw (lt-leb (length (on (edges_of ws q) e) + length xs) 256 (omega arith)) refl

@@ -1,27 +1,25 @@
 -- The free part of an edge, lent on.
 use Rattle.std.proofs.Common.{◌≡◌, ℕ, ◌+◌, ◌-◌, ◌*◌, ◌/◌, ◌<◌, ◌≤◌, ◌⊎◌, List, [], length, get_or, take, drop, sym, refl, ap, ◌∙◌, inl, inr, arith, length-take}
 use borrow.Rule.Slice.PartMut.{put_mid}
-use Rattle.std.proofs.lemmas.List.{get_or_append_left, get_or-append_right, get_or-take, get_or-drop, length-take-le, take_at, drop_at, set-get_or, get_or_default}
+use Rattle.std.proofs.lemmas.List.{get_or_append_left, get_or-append_right, get_or-take, get_or-drop, length-take-le, take_at, drop_at, set-get_or}
 use Rattle.std.proofs.lemmas.Bool.{cases_lt}
 use Rattle.edges.specs.declared.head.Head.{Head}
 use Rattle.edges.specs.declared.state.Edges.{Edges}
-use Rattle.edges.specs.Held.{item_at, items_from, queue_of, edges_of, nobody, free_from, free_words, free_of}
+use Rattle.edges.specs.Held.{IsHead, item_at, items_from, queue_of, edges_of, nobody, free_from, free_words, free_of}
 use Rattle.edges.specs.Queues.{on}
 use Rattle.edges.specs.Laws.{FreeIsFree}
 use Rattle.edges.proofs.Slots.{item_same, items_same}
 use Rattle.edges.proofs.Numbered.{queues_at, queues_set, apart, behind}
 
 -- the items that were written into the free part of edge e stand in the slots behind its items
-pub free_items : (ws : List ℕ) (q : Edges) (e n : ℕ) (d : Head) → e < length q.heads → (get_or q.heads e d).len + n ≤ 256 →
-    items_from ws (behind q e d) n ≡ items_from (free_of ws q e) 0 n
-free_items ws q e n d le fits =
-    let h : Head = get_or q.heads e nobody in
-    let s : get_or q.heads e d ≡ h = get_or_default q.heads e d nobody le in
-    let f : h.len + n ≤ 256 = rw s at fits in
-    rw s (items_same ws (free_of ws q e) (516 * e + h.start + h.len) 0 n
-    (λ a b l u t. item_same ws (free_of ws q e) a b (λ p r pl pu pt.
-    let at : p ≡ free_from q e + r = omega arith in
-    rw at (sym (get_or-take (free_words q e) (drop (free_from q e) ws) r 0 (omega arith) ∙ get_or-drop (free_from q e) ws r 0)))))
+pub free_items : (ws : List ℕ) (q : Edges) (e n : ℕ) (h : Head) → IsHead q e h → h.len + n ≤ 256 →
+    items_from ws (behind e h) n ≡ items_from (free_of ws q e) 0 n
+free_items ws q e n h at fits =
+    rw at.read
+    (items_same ws (take (4 * (256 - h.len)) (drop (4 * behind e h) ws)) (behind e h) 0 n
+    (λ a b l u t. item_same ws (take (4 * (256 - h.len)) (drop (4 * behind e h) ws)) a b (λ p r pl pu pt.
+    let same : p ≡ 4 * behind e h + r = omega arith in
+    rw same (sym (get_or-take (4 * (256 - h.len)) (drop (4 * behind e h) ws) r 0 (omega arith) ∙ get_or-drop (4 * behind e h) ws r 0)))))
 
 -- after a write to the k places from a on: the places before and after
 mid_before : (a k : ℕ) (ws ys : List ℕ) (p : ℕ) → a ≤ length ws → p < a → get_or (put_mid a k ws ys) p 0 ≡ get_or ws p 0

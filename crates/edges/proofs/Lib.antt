@@ -1,4 +1,5 @@
 mod Slots
+mod Asked
 mod Numbered
 mod Added
 pub mod Lent

@@ -1,6 +1,6 @@
 -- The edges by their numbers.
 use Rattle.std.proofs.Common.{◌≡◌, ℕ, zero, suc, ◌+◌, ◌*◌, ◌/◌, ◌<◌, ◌≤◌, ◌⊎◌, List, [], length, get_or, set, replicate, Err, Result, sym, refl, ap, ◌∙◌, inl, inr, add-zero, zero-add, arith, length-set}
-use Rattle.std.proofs.lemmas.List.{ext_get_or, get_or-set_same, get_or-set_other, get_or_default, get_or-replicate, length-replicate}
+use Rattle.std.proofs.lemmas.List.{ext_get_or, get_or-set_same, get_or-set_other, get_or-replicate, length-replicate}
 use Rattle.std.proofs.lemmas.Bool.{cases_eq, lt-ltb, le-ltb}
 use Rattle.items.specs.declared.Item.{Item}
 use Rattle.items.specs.declared.Refusal.TheVariants.{NotThere}
@@ -9,7 +9,7 @@ use Rattle.edges.specs.declared.fault.Fault.TheVariants.{Refused, ShortMemory}
 use Rattle.edges.specs.declared.head.Head.{Head}
 use Rattle.edges.specs.declared.state.Edges.{Edges}
 use Rattle.edges.specs.Queues.{on, there, asked}
-use Rattle.edges.specs.Held.{item_at, queue_of, queues_from, edges_of, nobody}
+use Rattle.edges.specs.Held.{IsHead, item_at, queue_of, queues_from, edges_of, nobody}
 use Rattle.edges.proofs.Slots.{items_same, items_none, items_length}
 
 queues_length : (ws : List ℕ) (hs : List Head) (e n : ℕ) → length (queues_from ws hs e n) ≡ n
@@ -98,13 +98,13 @@ queues_none ws h m n none le =
     ∙ rw (get_or-replicate m d h nobody (omega arith)) (items_none ws (516 * d + h.start) h.len none)
     ∙ sym (get_or-replicate n d [] [] (omega arith)))
 
--- what edge e holds, by the head that was read at some default
-pub held_at : (ws : List ℕ) (q : Edges) (e : ℕ) (d : Head) → e < q.count → e < length q.heads → on (edges_of ws q) e ≡ queue_of ws e (get_or q.heads e d)
-held_at ws q e d lt le = queues_at ws q.heads q.count e lt ∙ ap (queue_of ws e) (get_or_default q.heads e nobody d le)
+-- what edge e holds, by its head
+pub held_at : (ws : List ℕ) (q : Edges) (e : ℕ) (h : Head) → IsHead q e h → on (edges_of ws q) e ≡ queue_of ws e h
+held_at ws q e h at = queues_at ws q.heads q.count e at.there ∙ ap (queue_of ws e) at.read
 
-pub length_at : (ws : List ℕ) (q : Edges) (e : ℕ) (d : Head) → e < q.count → e < length q.heads → length (on (edges_of ws q) e) ≡ (get_or q.heads e d).len
-length_at ws q e d lt le = ap length (held_at ws q e d lt le) ∙ items_length ws (516 * e + (get_or q.heads e d).start) (get_or q.heads e d).len
+pub length_at : (ws : List ℕ) (q : Edges) (e : ℕ) (h : Head) → IsHead q e h → length (on (edges_of ws q) e) ≡ h.len
+length_at ws q e h at = ap length (held_at ws q e h at) ∙ items_length ws (516 * e + h.start) h.len
 
--- the slot behind the items of edge e, by the head that was read
-abbrev pub behind : Edges → ℕ → Head → ℕ
-behind q e d = 516 * e + (get_or q.heads e d).start + (get_or q.heads e d).len
+-- the slot behind the items of edge e
+abbrev pub behind : ℕ → Head → ℕ
+behind e h = 516 * e + h.start + h.len

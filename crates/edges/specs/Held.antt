@@ -1,5 +1,5 @@
 -- What lent words hold.
-use Rattle.std.specs.Prelude.{ℕ, zero, suc, ◌+◌, ◌-◌, ◌*◌, List, [], ◌∷◌, get_or, take, drop, Some, None, Option, slice_index, slice_index_or}
+use Rattle.std.specs.Prelude.{◌≡◌, ℕ, zero, suc, ◌+◌, ◌-◌, ◌*◌, ◌<◌, List, [], ◌∷◌, get_or, take, drop, Some, None, Option, slice_index, slice_index_or}
 use Rattle.std.proofs.Common.{lit<, lit≤}
 use Rattle.items.specs.declared.Item.{Item}
 use Rattle.items.specs.declared.Item.TheVariants.{Barrier}
@@ -24,6 +24,11 @@ items_from ws k (suc n) = item_at ws k ∷ items_from ws (suc k) n
 
 abbrev pub nobody : Head
 nobody = record { start = 0; len = 0; fits = (lit< tt, lit≤ tt) }
+
+-- edge e is there, and h says where its items stand
+pub record IsHead (q : Edges) (e : ℕ) (h : Head) : Type 0 where
+  pub there : e < q.count
+  pub read : slice_index_or q.heads e nobody ≡ h
 
 -- what edge e holds, by where its items stand
 abbrev pub queue_of : List ℕ → ℕ → Head → List Item

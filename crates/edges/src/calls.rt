@@ -1,6 +1,6 @@
-ghost use Rattle.std.specs.Prelude.{◌≡◌, ℕ, ◌+◌, ◌*◌, ◌/◌, ◌<◌, ◌≤◌, ◌⊎◌, List, [], ◌∷◌, length, replicate, IfOk, Ok, Err, MatchBool, MatchOption, ◌≢◌};
+ghost use Rattle.std.specs.Prelude.{◌≡◌, ℕ, ◌+◌, ◌*◌, ◌/◌, ◌<◌, ◌≤◌, ◌⊎◌, List, [], ◌∷◌, length, replicate, IfOk, Ok, Err, MatchOption, MatchResult, ◌≢◌};
 ghost use Rattle.items.specs.declared.Refusal.TheVariants.{NotThere};
-ghost use Rattle.edges.specs.Held.{item_at, queue_of, edges_of, free_from, free_words, free_of, items_from};
+ghost use Rattle.edges.specs.Held.{IsHead, item_at, queue_of, edges_of, free_from, free_words, free_of, items_from};
 ghost use Rattle.edges.specs.declared.fault.Fault.TheVariants.{Refused, ShortMemory};
 ghost use Rattle.edges.specs.Queues.{counted, cleared, peeked, pushed, popped, asked, taken_up};
 
@@ -35,13 +35,6 @@ fn put_at(words: &mut [u32], slot: usize, item: Item)
     words[at + 3] = amount;
 }
 
-// Whether there is room for n items more.
-fn has_room(head: Head, n: usize) -> bool
-    ensures { MatchBool result (head.len + n ≤ 256) (256 < head.len + n) }
-{
-    n <= CAPACITY - head.len
-}
-
 // Where the items of edge e stand once the first is taken; the slots of the other edges stay. The items are moved down
 // only when the lower half is used up, so once in 256 calls at most; and an edge that gets empty starts at slot 0 again,
 // so that the words in use stay few.
@@ -52,7 +45,7 @@ fn advance(words: &mut [u32], e: usize, head: Head) -> Head
 {
     let len = head.len - 1;
     if len == 0 {
-        return Head { start: 0, len };
+        return Head::EMPTY;
     }
     let start = head.start + 1;
     if start < CAPACITY {
@@ -74,7 +67,7 @@ impl Edges {
         }
         Some(Edges {
             count,
-            heads: [Head { start: 0, len: 0 }; MOST],
+            heads: [Head::EMPTY; MOST],
         })
     }
 
@@ -85,43 +78,56 @@ impl Edges {
         WORDS * self.count
     }
 
-    // Whether enough words are lent, and edge e is there.
-    fn ask(&self, lent: usize, e: usize) -> Result<(), Fault>
-        ensures { elim result [
-          | Ok _ ↦ (2064 * self.now.count ≤ lent) × (e < self.now.count)
-          | Err f ↦ ((lent < 2064 * self.now.count) × (f ≡ ShortMemory))
-              ⊎ ((2064 * self.now.count ≤ lent) × (self.now.count ≤ e) × (f ≡ Refused NotThere))
-        ] }
+    // Where the items of edge e stand, if it is there.
+    fn head(&self, e: usize) -> Result<Head, Fault>
+        ensures { MatchResult result (λ h. IsHead self.now e h) (λ f. (self.now.count ≤ e) × (f ≡ Refused NotThere)) }
+    {
+        if e >= self.count {
+            return Err(Fault::Refused(Refusal::NotThere));
+        }
+        Ok(self.heads[e])
+    }
+
+    // The same, where enough words must be lent.
+    fn ask(&self, lent: usize, e: usize) -> Result<Head, Fault>
+        ensures { MatchResult result
+            (λ h. (2064 * self.now.count ≤ lent) × IsHead self.now e h)
+            (λ f. ((lent < 2064 * self.now.count) × (f ≡ ShortMemory))
+            ⊎ ((2064 * self.now.count ≤ lent) × (self.now.count ≤ e) × (f ≡ Refused NotThere))) }
     {
         if lent < WORDS * self.count {
             return Err(Fault::ShortMemory);
         }
-        if e >= self.count {
-            return Err(Fault::Refused(Refusal::NotThere));
-        }
-        Ok(())
+        self.head(e)
     }
 
     // How many items are on edge e.
     pub fn len(&self, e: usize) -> Result<usize, Fault>
         ensures { (ws : List ℕ) → result ≡ counted (edges_of ws self.now) e }
     {
-        if e >= self.count {
-            return Err(Fault::Refused(Refusal::NotThere));
+        Ok(self.head(e)?.len)
+    }
+
+    // The first item of edge e, and where the items of that edge stand.
+    fn first(&self, words: &[u32], e: usize) -> Result<(Head, Item), Fault>
+        ensures { MatchResult result
+            (λ p. (2064 * self.now.count ≤ length words.now) × IsHead self.now e p.0 × (0 < p.0.len)
+            × (p.1 ≡ item_at words.now (516 * e + p.0.start)))
+            (λ f. peeked (length words.now) (edges_of words.now self.now) e ≡ Err f) }
+    {
+        let head = self.ask(words.len(), e)?;
+        if head.len == 0 {
+            return Err(Fault::Refused(Refusal::NothingToTake));
         }
-        Ok(self.heads[e].len)
+        Ok((head, item_at(words, SLOTS * e + head.start)))
     }
 
     // The first item of edge e, which stays.
     pub fn peek(&self, words: &[u32], e: usize) -> Result<Item, Fault>
         ensures { result ≡ peeked (length words.now) (edges_of words.now self.now) e }
     {
-        self.ask(words.len(), e)?;
-        let head = self.heads[e];
-        if head.len == 0 {
-            return Err(Fault::Refused(Refusal::NothingToTake));
-        }
-        Ok(item_at(words, SLOTS * e + head.start))
+        let (_, item) = self.first(words, e)?;
+        Ok(item)
     }
 
     // One item more at the end of edge e.
@@ -131,16 +137,10 @@ impl Edges {
           | Err f ↦ (pushed (length words.old) (edges_of words.old self.old) e item ≡ Err f) × (words.new ≡ words.old) × (self.new ≡ self.old)
         ] }
     {
-        self.ask(words.len(), e)?;
-        let head = self.heads[e];
-        if !has_room(head, 1) {
-            return Err(Fault::Refused(Refusal::NoRoom));
-        }
+        let head = self.ask(words.len(), e)?;
+        let more = head.with_more(1)?;
         put_at(words, SLOTS * e + head.start + head.len, item);
-        self.heads[e] = Head {
-            start: head.start,
-            len: head.len + 1,
-        };
+        self.heads[e] = more;
         Ok(())
     }
 
@@ -151,12 +151,7 @@ impl Edges {
           | Err f ↦ (popped (length words.old) (edges_of words.old self.old) e ≡ Err f) × (words.new ≡ words.old) × (self.new ≡ self.old)
         ] }
     {
-        self.ask(words.len(), e)?;
-        let head = self.heads[e];
-        if head.len == 0 {
-            return Err(Fault::Refused(Refusal::NothingToTake));
-        }
-        let item = item_at(words, SLOTS * e + head.start);
+        let (head, item) = self.first(words, e)?;
         self.heads[e] = advance(words, e, head);
         Ok(item)
     }
@@ -168,10 +163,8 @@ impl Edges {
           | Err f ↦ (cleared (edges_of ws self.old) e ≡ Err f) × (self.new ≡ self.old)
         ] }
     {
-        if e >= self.count {
-            return Err(Fault::Refused(Refusal::NotThere));
-        }
-        self.heads[e] = Head { start: 0, len: 0 };
+        self.head(e)?;
+        self.heads[e] = Head::EMPTY;
         Ok(())
     }
 
@@ -181,8 +174,7 @@ impl Edges {
             (Ok (free_from self.now e, free_from self.now e + free_words self.now e)) ≡ result }
         ensures within { IfOk result (λ p. (p.0 ≤ p.1) × (p.1 ≤ length words.now)) }
     {
-        self.ask(words.len(), e)?;
-        let head = self.heads[e];
+        let head = self.ask(words.len(), e)?;
         let from = ITEM * (SLOTS * e + head.start + head.len);
         Ok((from, from + ITEM * (CAPACITY - head.len)))
     }
@@ -194,15 +186,7 @@ impl Edges {
           | Err f ↦ (taken_up (length words.now) (edges_of words.now self.old) e (items_from (free_of words.now self.old e) 0 n) ≡ Err f) × (self.new ≡ self.old)
         ] }
     {
-        self.ask(words.len(), e)?;
-        let head = self.heads[e];
-        if !has_room(head, n) {
-            return Err(Fault::Refused(Refusal::NoRoom));
-        }
-        self.heads[e] = Head {
-            start: head.start,
-            len: head.len + n,
-        };
+        self.heads[e] = self.ask(words.len(), e)?.with_more(n)?;
         Ok(())
     }
 }

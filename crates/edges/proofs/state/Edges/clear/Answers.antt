@@ -1,13 +1,16 @@
 use Rattle.std.proofs.Common.{[], Ok, sym, refl, ap, ◌∙◌, arith}
+use Rattle.std.proofs.lemmas.Result.{err_from_is_err_and}
 use Rattle.edges.proofs.Slots.{items_none}
 use Rattle.edges.proofs.Numbered.{there_is, there_not, edge_set}
 use Rattle.edges.proofs.state.Edges.clear.Goals as goal
 
-pub returns-then-e-self : goal.returns-then-e-self
-returns-then-e-self c = λ ws. (there_not ws c.args.self.now c.args.e _ (omega arith), refl)
+pub returns-in_err-head : goal.returns-in_err-head
+returns-in_err-head c =
+    let p = err_from_is_err_and c.from_residual.result c.from_residual.ensures.1 in
+    rw (p.1, p.2) (λ ws. (rw c.in_err-head.ensures.1 (there_not ws c.args.self.now c.args.e _ c.in_err-head.ensures.0), refl))
 
 pub returns : goal.returns
 returns c = λ ws.
-    there_is ws c.args.self.now c.args.e _ (omega arith)
-    ∙ sym (ap Ok (edge_set ws ws c.args.self.now.heads c.args.self.now.count c.args.e _ [] (omega arith) (omega arith)
+    there_is ws c.args.self.now c.args.e _ c.in_ok-head.ensures.there
+    ∙ sym (ap Ok (edge_set ws ws c.args.self.now.heads c.args.self.now.count c.args.e _ [] c.in_ok-head.ensures.there (omega (arith, c.in_ok-head.ensures.there))
     (items_none ws _ 0 refl) (λ j apart. refl)))

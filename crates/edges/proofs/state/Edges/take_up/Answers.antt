@@ -13,20 +13,22 @@ returns-in_err-ask c =
     rw (p.1, p.2)
     (asked_not c.args.words.now c.args.self.now c.args.e _ _ c.in_err-ask.ensures, refl)
 
-pub returns-then-not-has_room : goal.returns-then-not-has_room
-returns-then-not-has_room c =
+pub returns-in_err-self : goal.returns-in_err-self
+returns-in_err-self c =
+    let p = err_from_is_err_and c.from_residual-in_err-self.result c.from_residual-in_err-self.ensures.1 in
     let t = c.in_ok-ask.ensures in
-    let many = items_length (free_of c.args.words.now c.args.self.now c.args.e) 0 c.args.n in (
-      asked_is c.args.words.now c.args.self.now c.args.e _ t
-          ∙ added_not c.args.words.now c.args.self.now c.args.e c.index-self-e.result _ t.1 (omega arith) (omega (arith, c.if-not-has_room.ensures)),
+    let many = items_length (free_of c.args.words.now c.args.self.now c.args.e) 0 c.args.n in
+    rw (p.1, p.2, c.in_err-self.ensures.1) (
+      asked_is c.args.words.now c.args.self.now c.args.e _ (t.0, t.1.there)
+          ∙ added_not c.args.words.now c.args.self.now c.args.e _ _ t.1 (omega (arith, c.in_err-self.ensures)),
       refl,
     )
 
 pub returns : goal.returns
 returns c =
     let t = c.in_ok-ask.ensures in
-    asked_is c.args.words.now c.args.self.now c.args.e _ t
-    ∙ added_is c.args.words.now c.args.words.now c.args.self.now c.args.e c.args.n c.index-self-e.result _ _
-    t.1 (omega arith) refl refl (items_length (free_of c.args.words.now c.args.self.now c.args.e) 0 c.args.n)
-    (free_items c.args.words.now c.args.self.now c.args.e c.args.n c.index-self-e.result (omega arith) (omega (arith, c.if-not-has_room.ensures)))
+    asked_is c.args.words.now c.args.self.now c.args.e _ (t.0, t.1.there)
+    ∙ added_is c.args.words.now c.args.words.now c.args.self.now c.args.e c.args.n _ _ _
+    t.1 (omega arith) c.in_ok-self.ensures.1 c.in_ok-self.ensures.2 (items_length (free_of c.args.words.now c.args.self.now c.args.e) 0 c.args.n)
+    (free_items c.args.words.now c.args.self.now c.args.e c.args.n _ t.1 (omega (arith, c.in_ok-self.ensures.0)))
     (λ j apart. refl)
