@@ -1,8 +1,11 @@
 -- Items in slots of four words.
-use Rattle.std.proofs.Common.{◌≡◌, ℕ, zero, suc, ◌+◌, ◌-◌, ◌*◌, ◌<◌, ◌≤◌, List, [], ◌∷◌, ◌++◌, length, get_or, set, sym, refl, ap, ◌∙◌, add-zero, zero-add, arith, length-set, get_or-set_other, get_or-set_same}
+use Rattle.std.proofs.Common.{◌≡◌, ℕ, zero, suc, ◌+◌, ◌-◌, ◌*◌, ◌<◌, ◌≤◌, List, [], ◌∷◌, ◌++◌, length, get_or, sym, refl, ap, ◌∙◌, inl, inr, take, add-zero, zero-add, arith, set, length-set, get_or-set_other, get_or-set_same, length-take, length-drop, drop, Option, Some, None, unwrap_or}
+use borrow.Rule.Slice.PartMut.{put_mid}
+use Rattle.std.proofs.lemmas.List.{get_or_append_left, get_or-append_right, get_or-take, get_or-drop, length-take-le}
+use Rattle.std.proofs.lemmas.Bool.{cases_lt}
 use Rattle.items.specs.declared.Item.{Item}
 use Rattle.items.specs.declared.Item.TheVariants.{Record, Watermark, Barrier}
-use Rattle.items.specs.Words.{words_of, decoded}
+use Rattle.items.specs.Words.{words_of, decoded, first_in}
 use Rattle.edges.specs.Held.{or_stop, item_at, items_from}
 
 -- an item is its four words
@@ -53,6 +56,50 @@ pub words_tell_lem : (i : Item) → or_stop (decoded (get_or (words_of i) 0 0) (
 words_tell_lem (Record r) = refl
 words_tell_lem (Watermark t) = refl
 words_tell_lem (Barrier n) = refl
+
+-- after a write to the k places from a on: the places before and after
+mid_before : (a k : ℕ) (ws ys : List ℕ) (p : ℕ) → a ≤ length ws → p < a → get_or (put_mid a k ws ys) p 0 ≡ get_or ws p 0
+mid_before a k ws ys p fits h =
+    let l : p < length (take a ws) = simp length-take (omega arith) in
+    rw (get_or_append_left (take a ws) _ 0 p l) (get_or-take a ws p 0 h)
+
+mid_after : (a k : ℕ) (ws ys : List ℕ) (p : ℕ) → a ≤ length ws → length ys ≡ k → a + k ≤ p → get_or (put_mid a k ws ys) p 0 ≡ get_or ws p 0
+mid_after a k ws ys p fits len u =
+    let l : length (take a ws) ≡ a = length-take-le a ws fits in
+    let e : a + (k + (p - a - k)) ≡ p = omega arith in
+    rw (get_or-append_right (take a ws) _ a p 0 l (omega arith), get_or-append_right ys _ k (p - a) 0 len (omega arith), get_or-drop, get_or-drop, e) refl
+
+-- a slot that is not in the part that was written
+pub slot_apart : (s m : ℕ) (ws ys : List ℕ) (j : ℕ) → 4 * s ≤ length ws → length ys ≡ 4 * m → (s ≤ j → j < s + m → ⊥) →
+    item_at (put_mid (4 * s) (4 * m) ws ys) j ≡ item_at ws j
+slot_apart s m ws ys j fits len apart =
+    item_same (put_mid (4 * s) (4 * m) ws ys) ws j j (λ p q l u t.
+    let same : p ≡ q = omega arith in
+    elim (cases_lt p (4 * s)) [
+      | inl before ↦ mid_before (4 * s) (4 * m) ws ys p fits before
+      | inr after ↦ mid_after (4 * s) (4 * m) ws ys p fits len (omega arith)
+    ]
+    ∙ ap (λ (x : ℕ). get_or ws x 0) same)
+
+-- the item in four words, and in a slot by its four words
+first_of_four : (vs : List ℕ) → 4 ≤ length vs → unwrap_or (first_in vs) (Barrier 0) ≡ or_stop (decoded (get_or vs 0 0) (get_or vs 1 0) (get_or vs 2 0) (get_or vs 3 0))
+first_of_four [] h = absurd (omega arith)
+first_of_four (a ∷ []) h = absurd (omega arith)
+first_of_four (a ∷ b ∷ []) h = absurd (omega arith)
+first_of_four (a ∷ b ∷ c ∷ []) h = absurd (omega arith)
+first_of_four (a ∷ b ∷ c ∷ d ∷ vs) h = unwrapped (decoded a b c d)
+  where
+    unwrapped : (o : Option Item) → unwrap_or o (Barrier 0) ≡ or_stop o
+    unwrapped (Some i) = refl
+    unwrapped None = refl
+
+pub loaded : (ws : List ℕ) (k : ℕ) → 4 * k + 3 < length ws → unwrap_or (first_in (take 4 (drop (4 * k) ws))) (Barrier 0) ≡ item_at ws k
+loaded ws k h =
+    let vs : List ℕ = take 4 (drop (4 * k) ws) in
+    let at : (n m : ℕ) → n < 4 → 4 * k + n ≡ m → get_or vs n 0 ≡ get_or ws m 0 =
+    λ n m lt is. get_or-take 4 (drop (4 * k) ws) n 0 lt ∙ get_or-drop (4 * k) ws n 0 ∙ ap (λ (x : ℕ). get_or ws x 0) is in
+    first_of_four vs (simp (length-take, length-drop) (omega arith))
+    ∙ rw (at 0 (4 * k) (omega arith) (omega arith), at 1 _ (omega arith) refl, at 2 _ (omega arith) refl, at 3 _ (omega arith) refl) refl
 
 -- two ranges hold the same items where each slot of the one is as that of the other
 pub items_same : (ws vs : List ℕ) (k m n : ℕ) →
