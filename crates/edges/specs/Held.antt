@@ -1,5 +1,6 @@
 -- What lent words hold.
 use Rattle.std.specs.Prelude.{◌≡◌, ℕ, zero, suc, ◌+◌, ◌-◌, ◌*◌, ◌<◌, List, [], ◌∷◌, get_or, take, drop, Some, None, Option, slice_index, slice_index_or}
+use Rattle.std.specs.declared.ops.Range.{Range}
 use Rattle.std.proofs.Common.{lit<, lit≤}
 use Rattle.items.specs.declared.Item.{Item}
 use Rattle.items.specs.declared.Item.TheVariants.{Barrier}
@@ -48,6 +49,9 @@ free_from q e = 4 * (516 * e + (get_or q.heads e nobody).start + (get_or q.heads
 
 abbrev pub free_words : Edges → ℕ → ℕ
 free_words q e = 4 * (256 - (get_or q.heads e nobody).len)
+
+abbrev pub free_range : Edges → ℕ → Range ℕ
+free_range q e = record { start = free_from q e; end = free_from q e + free_words q e }
 
 abbrev pub free_of : List ℕ → Edges → ℕ → List ℕ
 free_of ws q e = take (free_words q e) (drop (free_from q e) ws)

@@ -1,6 +1,6 @@
 ghost use Rattle.std.specs.Prelude.{◌≡◌, ℕ, ◌+◌, ◌*◌, ◌/◌, ◌<◌, ◌≤◌, ◌⊎◌, List, [], ◌∷◌, length, replicate, IfOk, Ok, Err, MatchOption, MatchResult, ◌≢◌};
 ghost use Rattle.items.specs.declared.Refusal.TheVariants.{NotThere};
-ghost use Rattle.edges.specs.Held.{IsHead, item_at, queue_of, edges_of, free_from, free_words, free_of, items_from};
+ghost use Rattle.edges.specs.Held.{IsHead, item_at, queue_of, edges_of, free_range, free_of, items_from};
 ghost use Rattle.edges.specs.declared.fault.Fault.TheVariants.{Refused, ShortMemory};
 ghost use Rattle.edges.specs.Queues.{counted, cleared, peeked, pushed, popped, asked, taken_up};
 
@@ -8,6 +8,7 @@ use crate::head::Head;
 use crate::layout::{CAPACITY, ITEM, MOST, SLOTS, WORDS};
 use crate::{Edges, Fault};
 use items::{Item, Refusal};
+use std::ops::Range;
 
 // The item in a slot.
 fn item_at(words: &[u32], slot: usize) -> Item
@@ -166,15 +167,14 @@ impl Edges {
         Ok(())
     }
 
-    // Where in the lent words the free part of edge e begins and ends: room for all that it can still hold.
-    pub fn free(&self, words: &[u32], e: usize) -> Result<(usize, usize), Fault>
-        ensures place { asked (length words.now) (edges_of words.now self.now) e
-            (Ok (free_from self.now e, free_from self.now e + free_words self.now e)) ≡ result }
-        ensures within { IfOk result (λ p. (p.0 ≤ p.1) × (p.1 ≤ length words.now)) }
+    // Where in the lent words the free part of edge e is: room for all that it can still hold.
+    pub fn free(&self, words: &[u32], e: usize) -> Result<Range<usize>, Fault>
+        ensures place { asked (length words.now) (edges_of words.now self.now) e (Ok (free_range self.now e)) ≡ result }
+        ensures within { IfOk result (λ r. (r.start ≤ r.end) × (r.end ≤ length words.now)) }
     {
         let head = self.ask(words.len(), e)?;
         let from = ITEM * (SLOTS * e + head.start + head.len);
-        Ok((from, from + ITEM * (CAPACITY - head.len)))
+        Ok(from..from + ITEM * (CAPACITY - head.len))
     }
 
     // Takes up the first n items that were written into the free part of edge e.
