@@ -1,6 +1,7 @@
 -- Items more on an edge, in the slots behind its items.
 use Rattle.std.proofs.Common.{◌≡◌, ℕ, ◌+◌, ◌*◌, ◌<◌, ◌≤◌, List, ◌++◌, length, set, Ok, Err, sym, refl, ap, ◌∙◌, arith}
 use Rattle.std.proofs.lemmas.Bool.{le-leb, lt-leb}
+use Rattle.arrayvec.specs.ArrayVec.{with_items}
 use Rattle.items.specs.declared.Item.{Item}
 use Rattle.items.specs.declared.Refusal.TheVariants.{NoRoom}
 use Rattle.edges.specs.declared.fault.Fault.TheVariants.{Refused}
@@ -12,20 +13,20 @@ use Rattle.edges.proofs.Slots.{items_same, items_append}
 use Rattle.edges.proofs.Numbered.{edge_set, held_at, length_at, behind}
 
 -- n slots behind the items were written, or hold what is to be added already; g is the new head
-pub added_is : (ws vs : List ℕ) (q : Edges) (e n : ℕ) (h g : Head) (xs : List Item) → IsHead q e h → e < length q.heads →
+pub added_is : (ws vs : List ℕ) (q : Edges) (gs : List Head) (e n : ℕ) (h g : Head) (xs : List Item) → gs ≡ q.heads.items → IsHead q e h →
     g.start ≡ h.start → g.len ≡ h.len + n → length xs ≡ n → items_from vs (behind e h) n ≡ xs →
     ((j : ℕ) → ((behind e h ≤ j) × (j < behind e h + n) → ⊥) → item_at vs j ≡ item_at ws j) →
-    added (edges_of ws q) e xs ≡ Ok (queues_from vs (set q.heads e g) 0 q.count)
-added_is ws vs q e n h g xs at le start len many put others =
+    added (edges_of ws q) e xs ≡ Ok (queues_from vs 0 (with_items q.heads (set gs e g)).items)
+added_is ws vs q gs e n h g xs same at start len many put others =
     let l : length (on (edges_of ws q) e) ≡ h.len = length_at ws q e h at in
     let kept : items_from vs (516 * e + h.start) h.len ≡ on (edges_of ws q) e =
     items_same vs ws (516 * e + h.start) (516 * e + h.start) h.len
-    (λ a b low high s. let same : a ≡ b = omega arith in others a (λ r. omega (arith, r.0)) ∙ ap (item_at ws) same)
+    (λ a b low high s. let eq : a ≡ b = omega arith in others a (λ r. omega (arith, r.0)) ∙ ap (item_at ws) eq)
     ∙ sym (held_at ws q e h at) in
     let here : queue_of vs e g ≡ on (edges_of ws q) e ++ xs =
     rw (start, len) (items_append vs (516 * e + h.start) h.len n ∙ rw (kept, put) refl) in
     rw (le-leb (length (on (edges_of ws q) e) + length xs) 256 (omega arith))
-    (ap Ok (sym (edge_set ws vs q.heads q.count e g (on (edges_of ws q) e ++ xs) at.there le here
+    (ap Ok (sym (edge_set ws vs q gs e g (on (edges_of ws q) e ++ xs) same at.there here
     (λ j apart. others j (λ r. omega (arith, r.0, r.1))))))
 
 pub added_not : (ws : List ℕ) (q : Edges) (e : ℕ) (h : Head) (xs : List Item) → IsHead q e h →

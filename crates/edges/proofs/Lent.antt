@@ -22,18 +22,18 @@ free_items ws q e n h at fits =
 
 pub free_is_free_lem : FreeIsFree
 free_is_free_lem q ws ys e there enough len =
-    let h : Head = get_or q.heads e nobody in
+    let h : Head = get_or q.heads.items e nobody in
     let s : ℕ = 516 * e + h.start + h.len in
     let vs : List ℕ = put_mid (free_from q e) (free_words q e) ws ys in
     let fits : 4 * s ≤ length ws = omega arith in
     let here : queue_of vs e h ≡ on (edges_of ws q) e =
     items_same vs ws (516 * e + h.start) (516 * e + h.start) h.len
     (λ a b l u t. let same : a ≡ b = omega arith in slot_apart s (256 - h.len) ws ys a fits len (λ from to. omega arith) ∙ ap (item_at ws) same)
-    ∙ sym (queues_at ws q.heads q.count e there) in
+    ∙ sym (queues_at ws q.heads.items e there) in
     let others : (j : ℕ) → (j / 516 ≡ e → ⊥) → item_at vs j ≡ item_at ws j =
     λ j ne. slot_apart s (256 - h.len) ws ys j fits len (λ from to. omega arith) in
     let same : edges_of vs q ≡ edges_of ws q =
-    queues_set ws vs q.heads q.heads q.count e (on (edges_of ws q) e) there here (λ d l ne. apart ws vs e d (get_or q.heads d nobody) ne others)
+    queues_set ws vs q.heads.items q.heads.items e (on (edges_of ws q) e) refl there here (λ d l ne. apart ws vs e d (get_or q.heads.items d nobody) ne others)
     ∙ set-get_or (edges_of ws q) e [] in
     let front : length (take (free_from q e) ws) ≡ free_from q e = length-take-le (free_from q e) ws fits in
     (same, rw (drop_at (take (free_from q e) ws) _ (free_from q e) front, take_at ys _ (free_words q e) len) refl)

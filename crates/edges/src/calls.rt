@@ -7,6 +7,7 @@ ghost use Rattle.edges.specs.Queues.{counted, cleared, peeked, pushed, popped, a
 use crate::head::Head;
 use crate::layout::{CAPACITY, ITEM, MOST, SLOTS, WORDS};
 use crate::{Edges, Fault};
+use arrayvec::ArrayVec;
 use items::{Item, Refusal};
 use std::ops::Range;
 
@@ -44,7 +45,7 @@ fn advance(words: &mut [u32], e: usize, head: Head) -> Head
 {
     let len = head.len - 1;
     if len == 0 {
-        return Head::EMPTY;
+        return Head::default();
     }
     let start = head.start + 1;
     if start < CAPACITY {
@@ -64,37 +65,36 @@ impl Edges {
         if count > MOST {
             return None;
         }
-        Some(Edges {
-            count,
-            heads: [Head::EMPTY; MOST],
-        })
+        let mut heads = ArrayVec::from([Head::default(); MOST]);
+        heads.truncate(count);
+        Some(Edges { heads })
     }
 
     // How many words are to be lent.
     pub fn words(&self) -> usize
         ensures { (ws : List ℕ) → result ≡ 2064 * length (edges_of ws self.now) }
     {
-        WORDS * self.count
+        WORDS * self.heads.len()
     }
 
     // Where the items of edge e stand, if it is there.
     fn head(&self, e: usize) -> Result<Head, Fault>
-        ensures { MatchResult result (λ h. IsHead self.now e h) (λ f. (self.now.count ≤ e) × (f ≡ Refused NotThere)) }
+        ensures { MatchResult result (λ h. IsHead self.now e h) (λ f. (length self.now.heads.items ≤ e) × (f ≡ Refused NotThere)) }
     {
-        if e >= self.count {
-            return Err(Fault::Refused(Refusal::NotThere));
-        }
-        Ok(self.heads[e])
+        self.heads
+            .get(e)
+            .copied()
+            .ok_or(Fault::Refused(Refusal::NotThere))
     }
 
     // The same, where enough words must be lent.
     fn ask(&self, lent: usize, e: usize) -> Result<Head, Fault>
         ensures { MatchResult result
-            (λ h. (2064 * self.now.count ≤ lent) × IsHead self.now e h)
-            (λ f. ((lent < 2064 * self.now.count) × (f ≡ ShortMemory))
-            ⊎ ((2064 * self.now.count ≤ lent) × (self.now.count ≤ e) × (f ≡ Refused NotThere))) }
+            (λ h. (2064 * length self.now.heads.items ≤ lent) × IsHead self.now e h)
+            (λ f. ((lent < 2064 * length self.now.heads.items) × (f ≡ ShortMemory))
+            ⊎ ((2064 * length self.now.heads.items ≤ lent) × (length self.now.heads.items ≤ e) × (f ≡ Refused NotThere))) }
     {
-        if lent < WORDS * self.count {
+        if lent < WORDS * self.heads.len() {
             return Err(Fault::ShortMemory);
         }
         self.head(e)
@@ -110,7 +110,7 @@ impl Edges {
     // The first item of edge e, and where the items of that edge stand.
     fn first(&self, words: &[u32], e: usize) -> Result<(Head, Item), Fault>
         ensures { MatchResult result
-            (λ p. (2064 * self.now.count ≤ length words.now) × IsHead self.now e p.0 × (0 < p.0.len)
+            (λ p. (2064 * length self.now.heads.items ≤ length words.now) × IsHead self.now e p.0 × (0 < p.0.len)
             × (p.1 ≡ item_at words.now (516 * e + p.0.start)))
             (λ f. peeked (length words.now) (edges_of words.now self.now) e ≡ Err f) }
     {
@@ -163,7 +163,7 @@ impl Edges {
         ] }
     {
         self.head(e)?;
-        self.heads[e] = Head::EMPTY;
+        self.heads[e] = Head::default();
         Ok(())
     }
 

@@ -14,10 +14,16 @@ pub struct Head {
     ghost fits: { (start < 256) × (len ≤ 256) },
 }
 
-impl Head {
-    // An edge without items.
-    pub const EMPTY: Head = Head { start: 0, len: 0 };
+// The head of an edge without items.
+impl Default for Head {
+    ghost is_default = { λ h. (h.start ≡ 0) × (h.len ≡ 0) };
 
+    fn default() -> Head {
+        Head { start: 0, len: 0 }
+    }
+}
+
+impl Head {
     // The head with n items more, if there is room for them.
     pub fn with_more(self, n: usize) -> Result<Head, Fault>
         ensures { MatchResult result

@@ -9,7 +9,7 @@ returns-then-len-eq0 c = record {
   here =
       rest_on c.args.words.now c.args.e c.args.head.start c.args.head.len c.requires.1
       ∙ ap (λ is. item_at c.args.words.now (516 * c.args.e + c.args.head.start) ∷ is)
-      (items_none c.args.words.now _ _ c.if-len-eq0.true ∙ sym (items_none c.args.words.now _ 0 refl));
+      (items_none c.args.words.now _ _ c.if-len-eq0.true ∙ sym (items_none c.args.words.now _ _ c.default.ensures.1));
   others = λ j apart. refl;
 }
 

@@ -1,4 +1,4 @@
-use Rattle.std.proofs.Common.{[], Ok, sym, refl, ap, ◌∙◌, arith}
+use Rattle.std.proofs.Common.{[], Ok, sym, refl, ap, ◌∙◌}
 use Rattle.std.proofs.lemmas.Result.{err_from_is_err_and}
 use Rattle.edges.proofs.Slots.{items_none}
 use Rattle.edges.proofs.Numbered.{there_is, there_not, edge_set}
@@ -12,5 +12,5 @@ returns-in_err-head c =
 pub returns : goal.returns
 returns c = λ ws.
     there_is ws c.args.self.now c.args.e _ c.in_ok-head.ensures.there
-    ∙ sym (ap Ok (edge_set ws ws c.args.self.now.heads c.args.self.now.count c.args.e _ [] c.in_ok-head.ensures.there (omega (arith, c.in_ok-head.ensures.there))
-    (items_none ws _ 0 refl) (λ j apart. refl)))
+    ∙ sym (ap Ok (edge_set ws ws c.args.self.now c.deref_mut.result.now c.args.e _ [] c.deref_mut.ensures.value c.in_ok-head.ensures.there
+    (items_none ws _ _ c.default.ensures.1) (λ j apart. refl)))

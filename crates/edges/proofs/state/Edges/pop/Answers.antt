@@ -1,4 +1,4 @@
-use Rattle.std.proofs.Common.{Ok, refl, ap, ◌∙◌, arith}
+use Rattle.std.proofs.Common.{Ok, refl, ap, ◌∙◌}
 use Rattle.std.proofs.lemmas.Result.{err_from_is_err_and}
 use Rattle.edges.specs.Queues.{taken}
 use Rattle.edges.specs.Held.{edges_of}
@@ -19,6 +19,6 @@ returns c =
     (held_at c.args.words.now c.args.self.now c.args.e _ t.1 ∙ c.advance.ensures.here)
     ∙ ap Ok (rw (
       t.3,
-      edge_set c.args.words.now c.advance.new.words c.args.self.now.heads c.args.self.now.count c.args.e c.advance.result _
-          t.1.there (omega (arith, t.1.there)) refl c.advance.ensures.others,
+      edge_set c.args.words.now c.advance.new.words c.args.self.now c.deref_mut.result.now c.args.e c.advance.result _ c.deref_mut.ensures.value
+          t.1.there refl c.advance.ensures.others,
     ) refl)
