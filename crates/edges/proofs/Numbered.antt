@@ -84,15 +84,17 @@ asked_is ws q e x h =
     let l : length (edges_of ws q) ≡ length q.heads.items = count_is ws q in
     rw (le-ltb (length ws) (2064 * length (edges_of ws q)) (omega (arith, h.0))) (there_is ws q e x h.1)
 
-pub asked_not : {A : Type 0} (ws : List ℕ) (q : Edges) (e : ℕ) (x : Result A Fault) (f : Fault) →
-    ((length ws < 2064 * length q.heads.items) × (f ≡ ShortMemory)) ⊎ ((2064 * length q.heads.items ≤ length ws) × (length q.heads.items ≤ e) × (f ≡ Refused NotThere)) →
-    asked (length ws) (edges_of ws q) e x ≡ Err f
-asked_not ws q e x f (inl h) =
+pub asked_short : {A : Type 0} (ws : List ℕ) (q : Edges) (e : ℕ) (x : Result A Fault) → length ws < 2064 * length q.heads.items →
+    asked (length ws) (edges_of ws q) e x ≡ Err ShortMemory
+asked_short ws q e x h =
     let l : length (edges_of ws q) ≡ length q.heads.items = count_is ws q in
-    rw (lt-ltb (length ws) (2064 * length (edges_of ws q)) (omega (arith, h.0)), h.1) refl
-asked_not ws q e x f (inr h) =
+    rw (lt-ltb (length ws) (2064 * length (edges_of ws q)) (omega arith)) refl
+
+pub asked_absent : {A : Type 0} (ws : List ℕ) (q : Edges) (e : ℕ) (x : Result A Fault) → 2064 * length q.heads.items ≤ length ws →
+    length q.heads.items ≤ e → asked (length ws) (edges_of ws q) e x ≡ Err (Refused NotThere)
+asked_absent ws q e x enough h =
     let l : length (edges_of ws q) ≡ length q.heads.items = count_is ws q in
-    rw (le-ltb (length ws) (2064 * length (edges_of ws q)) (omega (arith, h.0)), h.2) (there_not ws q e x h.1)
+    rw (le-ltb (length ws) (2064 * length (edges_of ws q)) (omega arith)) (there_not ws q e x h)
 
 -- edges whose heads count nothing
 pub queues_none : (ws : List ℕ) (e : ℕ) (h : Head) (n : ℕ) → h.len ≡ 0 → queues_from ws e (replicate n h) ≡ replicate n []

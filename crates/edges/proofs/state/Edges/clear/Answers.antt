@@ -4,11 +4,6 @@ use Rattle.edges.proofs.Slots.{items_none}
 use Rattle.edges.proofs.Numbered.{there_is, there_not, edge_set}
 use Rattle.edges.proofs.state.Edges.clear.Goals as goal
 
-pub returns-in_err-head : goal.returns-in_err-head
-returns-in_err-head c =
-    let p = err_from_is_err_and c.from_residual.result c.from_residual.ensures.1 in
-    rw (p.1, p.2) (λ ws. (rw c.in_err-head.ensures.1 (there_not ws c.args.self.now c.args.e _ c.in_err-head.ensures.0), refl))
-
 pub returns : goal.returns
 returns c = λ ws.
     there_is ws c.args.self.now c.args.e _ c.in_ok-head.ensures.there

@@ -2,14 +2,8 @@ use Rattle.std.proofs.Common.{ap, ◌∙◌}
 use Rattle.std.proofs.lemmas.Result.{err_from_is_err_and}
 use Rattle.edges.specs.Queues.{first_on}
 use Rattle.edges.proofs.Slots.{items_none}
-use Rattle.edges.proofs.Numbered.{asked_is, asked_not, held_at}
+use Rattle.edges.proofs.Numbered.{asked_is, held_at}
 use Rattle.edges.proofs.state.Edges.first.Goals as goal
-
-pub returns-in_err-head : goal.returns-in_err-head
-returns-in_err-head c =
-    let p = err_from_is_err_and c.from_residual.result c.from_residual.ensures.1 in
-    rw (p.1, p.2)
-    (asked_not c.args.words.now c.args.self.now c.args.e _ _ c.in_err-head.ensures)
 
 pub returns-then-head-eq0 : goal.returns-then-head-eq0
 returns-then-head-eq0 c =

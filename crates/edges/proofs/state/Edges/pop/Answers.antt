@@ -6,11 +6,6 @@ use Rattle.edges.proofs.Asked.{popped_err}
 use Rattle.edges.proofs.Numbered.{asked_is, held_at, edge_set}
 use Rattle.edges.proofs.state.Edges.pop.Goals as goal
 
-pub returns-in_err-head : goal.returns-in_err-head
-returns-in_err-head c =
-    let p = err_from_is_err_and c.from_residual.result c.from_residual.ensures.1 in
-    rw (p.1, p.2) (popped_err _ _ c.args.e _ c.in_err-head.ensures, refl, refl)
-
 pub returns : goal.returns
 returns c =
     let t = c.in_ok-head.ensures in

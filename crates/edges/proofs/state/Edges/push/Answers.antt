@@ -1,15 +1,9 @@
 use Rattle.std.proofs.Common.{[], ◌∷◌, refl, ap, ◌∙◌, arith}
 use Rattle.std.proofs.lemmas.Result.{err_from_is_err_and}
 use Rattle.edges.proofs.Slots.{items_none, items_cons}
-use Rattle.edges.proofs.Numbered.{asked_is, asked_not}
+use Rattle.edges.proofs.Numbered.{asked_is}
 use Rattle.edges.proofs.Added.{added_is, added_not}
 use Rattle.edges.proofs.state.Edges.push.Goals as goal
-
-pub returns-in_err-head : goal.returns-in_err-head
-returns-in_err-head c =
-    let p = err_from_is_err_and c.from_residual.result c.from_residual.ensures.1 in
-    rw (p.1, p.2)
-    (asked_not c.args.words.now c.args.self.now c.args.e _ _ c.in_err-head.ensures, refl, refl)
 
 pub returns-in_err-more : goal.returns-in_err-more
 returns-in_err-more c =

@@ -2,16 +2,10 @@ use Rattle.std.proofs.Common.{refl, ◌∙◌, arith}
 use Rattle.std.proofs.lemmas.Result.{err_from_is_err_and}
 use Rattle.edges.specs.Held.{free_of}
 use Rattle.edges.proofs.Slots.{items_length}
-use Rattle.edges.proofs.Numbered.{asked_is, asked_not}
+use Rattle.edges.proofs.Numbered.{asked_is}
 use Rattle.edges.proofs.Added.{added_is, added_not}
 use Rattle.edges.proofs.Lent.{free_items}
 use Rattle.edges.proofs.state.Edges.take_up.Goals as goal
-
-pub returns-in_err-ask : goal.returns-in_err-ask
-returns-in_err-ask c =
-    let p = err_from_is_err_and c.from_residual.result c.from_residual.ensures.1 in
-    rw (p.1, p.2)
-    (asked_not c.args.words.now c.args.self.now c.args.e _ _ c.in_err-ask.ensures, refl)
 
 pub returns-in_err-self : goal.returns-in_err-self
 returns-in_err-self c =
