@@ -1,5 +1,5 @@
 -- Items more on an edge, in the slots behind its items.
-use Rattle.std.proofs.Common.{◌≡◌, ℕ, ◌+◌, ◌*◌, ◌<◌, ◌≤◌, List, ◌++◌, length, set, Ok, Err, sym, refl, ap, ◌∙◌, arith}
+use Rattle.std.proofs.Common.{◌≡◌, ℕ, ◌+◌, ◌*◌, ◌<◌, ◌≤◌, List, ◌++◌, length, get_or, set, Ok, Err, sym, refl, ap, ◌∙◌, arith}
 use Rattle.std.proofs.lemmas.Bool.{le-leb, lt-leb}
 use Rattle.arrayvec.specs.ArrayVec.{with_items}
 use Rattle.items.specs.declared.Item.{Item}
@@ -7,10 +7,10 @@ use Rattle.items.specs.declared.Refusal.TheVariants.{NoRoom}
 use Rattle.edges.specs.declared.fault.Fault.TheVariants.{Refused}
 use Rattle.edges.specs.declared.head.Head.{Head}
 use Rattle.edges.specs.declared.state.Edges.{Edges}
-use Rattle.edges.specs.Queues.{on, added}
-use Rattle.edges.specs.Held.{IsHead, item_at, items_from, queue_of, queues_from, edges_of}
+use Rattle.edges.specs.Queues.{on, asked, added}
+use Rattle.edges.specs.Held.{IsHead, item_at, items_from, queue_of, queues_from, edges_of, nobody}
 use Rattle.edges.proofs.Slots.{items_same, items_append}
-use Rattle.edges.proofs.Numbered.{edge_set, held_at, length_at, behind}
+use Rattle.edges.proofs.Numbered.{asked_is, edge_set, held_at, length_at, behind}
 
 -- n slots behind the items were written, or hold what is to be added already; g is the new head
 pub added_is : (ws vs : List ℕ) (q : Edges) (gs : List Head) (e n : ℕ) (h g : Head) (xs : List Item) → gs ≡ q.heads.items → IsHead q e h →
@@ -29,8 +29,9 @@ added_is ws vs q gs e n h g xs same at start len many put others =
     (ap Ok (sym (edge_set ws vs q gs e g (on (edges_of ws q) e ++ xs) same at.there here
     (λ j apart. others j (λ r. omega (arith, r.0, r.1))))))
 
-pub added_not : (ws : List ℕ) (q : Edges) (e : ℕ) (h : Head) (xs : List Item) → IsHead q e h →
-    256 < h.len + length xs → added (edges_of ws q) e xs ≡ Err (Refused NoRoom)
-added_not ws q e h xs at more =
-    let l : length (on (edges_of ws q) e) ≡ h.len = length_at ws q e h at in
-    rw (lt-leb (length (on (edges_of ws q) e) + length xs) 256 (omega arith)) refl
+pub added_not : (ws : List ℕ) (q : Edges) (e : ℕ) (xs : List Item) → 2064 * length q.heads.items ≤ length ws → e < length q.heads.items →
+    256 < (get_or q.heads.items e nobody).len + length xs → asked (length ws) (edges_of ws q) e (added (edges_of ws q) e xs) ≡ Err (Refused NoRoom)
+added_not ws q e xs enough lt more =
+    let at : IsHead q e (get_or q.heads.items e nobody) = record { there = lt; read = refl } in
+    let l : length (on (edges_of ws q) e) ≡ (get_or q.heads.items e nobody).len = length_at ws q e (get_or q.heads.items e nobody) at in
+    asked_is ws q e _ (enough, lt) ∙ rw (lt-leb (length (on (edges_of ws q) e) + length xs) 256 (omega arith)) refl

@@ -132,7 +132,7 @@ impl Edges {
     }
 
     // One item more at the end of edge e.
-    #[tactic(auto, using(crate::proofs::Numbered::asked_short, crate::proofs::Numbered::asked_absent))]
+    #[tactic(auto, using(crate::proofs::Numbered::asked_short, crate::proofs::Numbered::asked_absent, crate::proofs::Added::added_not))]
     pub fn push(&mut self, words: &mut [u32], e: usize, item: Item) -> Result<(), Fault>
         ensures { elim result [
           | Ok _ ↦ pushed (length words.old) (edges_of words.old self.old) e item ≡ Ok (edges_of words.new self.new)
@@ -184,7 +184,7 @@ impl Edges {
     }
 
     // Takes up the first n items that were written into the free part of edge e.
-    #[tactic(auto, using(crate::proofs::Numbered::asked_short, crate::proofs::Numbered::asked_absent))]
+    #[tactic(auto, using(crate::proofs::Numbered::asked_short, crate::proofs::Numbered::asked_absent, crate::proofs::Added::added_not, crate::proofs::Slots::items_length))]
     pub fn take_up(&mut self, words: &[u32], e: usize, n: usize) -> Result<(), Fault>
         ensures { elim result [
           | Ok _ ↦ taken_up (length words.now) (edges_of words.now self.old) e (items_from (free_of words.now self.old e) 0 n) ≡ Ok (edges_of words.now self.new)

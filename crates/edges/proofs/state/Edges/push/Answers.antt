@@ -2,19 +2,8 @@ use Rattle.std.proofs.Common.{[], ◌∷◌, refl, ap, ◌∙◌, arith}
 use Rattle.std.proofs.lemmas.Result.{err_from_is_err_and}
 use Rattle.edges.proofs.Slots.{items_none, items_cons}
 use Rattle.edges.proofs.Numbered.{asked_is}
-use Rattle.edges.proofs.Added.{added_is, added_not}
+use Rattle.edges.proofs.Added.{added_is}
 use Rattle.edges.proofs.state.Edges.push.Goals as goal
-
-pub returns-in_err-more : goal.returns-in_err-more
-returns-in_err-more c =
-    let p = err_from_is_err_and c.from_residual-in_err-more.result c.from_residual-in_err-more.ensures.1 in
-    let t = c.in_ok-head.ensures in
-    rw (p.1, p.2, c.in_err-more.ensures.1) (
-      asked_is c.args.words.now c.args.self.now c.args.e _ (t.0, t.1.there)
-          ∙ added_not c.args.words.now c.args.self.now c.args.e _ (c.args.item ∷ []) t.1 (omega (arith, c.in_err-more.ensures)),
-      refl,
-      refl,
-    )
 
 pub returns : goal.returns
 returns c =

@@ -3,20 +3,9 @@ use Rattle.std.proofs.lemmas.Result.{err_from_is_err_and}
 use Rattle.edges.specs.Held.{free_of}
 use Rattle.edges.proofs.Slots.{items_length}
 use Rattle.edges.proofs.Numbered.{asked_is}
-use Rattle.edges.proofs.Added.{added_is, added_not}
+use Rattle.edges.proofs.Added.{added_is}
 use Rattle.edges.proofs.Lent.{free_items}
 use Rattle.edges.proofs.state.Edges.take_up.Goals as goal
-
-pub returns-in_err-self : goal.returns-in_err-self
-returns-in_err-self c =
-    let p = err_from_is_err_and c.from_residual-in_err-self.result c.from_residual-in_err-self.ensures.1 in
-    let t = c.in_ok-ask.ensures in
-    let many = items_length (free_of c.args.words.now c.args.self.now c.args.e) 0 c.args.n in
-    rw (p.1, p.2, c.in_err-self.ensures.1) (
-      asked_is c.args.words.now c.args.self.now c.args.e _ (t.0, t.1.there)
-          ∙ added_not c.args.words.now c.args.self.now c.args.e _ _ t.1 (omega (arith, c.in_err-self.ensures)),
-      refl,
-    )
 
 pub returns : goal.returns
 returns c =
