@@ -1,5 +1,4 @@
 mod Slots
-mod Asked
 mod Numbered
 mod Added
 pub mod Lent

@@ -57,6 +57,7 @@ fn advance(words: &mut [u32], e: usize, head: Head) -> Head
     Head { start: 0, len }
 }
 
+#[tactic(auto, using(crate::proofs::Added::come_to))]
 impl Edges {
     // So many empty edges, if they are at most 64.
     pub fn new(count: usize) -> Option<Edges>
@@ -101,7 +102,6 @@ impl Edges {
     }
 
     // How many items are on edge e.
-    #[tactic(auto, using(crate::proofs::Numbered::there_not))]
     pub fn len(&self, e: usize) -> Result<usize, Fault>
         ensures { (ws : List ℕ) → result ≡ counted (edges_of ws self.now) e }
     {
@@ -109,7 +109,6 @@ impl Edges {
     }
 
     // The first item of edge e, and where the items of that edge stand.
-    #[tactic(auto, using(crate::proofs::Numbered::asked_short, crate::proofs::Numbered::asked_absent))]
     fn first(&self, words: &[u32], e: usize) -> Result<(Head, Item), Fault>
         ensures { MatchResult result
             (λ p. (2064 * length self.now.heads.items ≤ length words.now) × IsHead self.now e p.0 × (0 < p.0.len)
@@ -132,7 +131,6 @@ impl Edges {
     }
 
     // One item more at the end of edge e.
-    #[tactic(auto, using(crate::proofs::Numbered::asked_short, crate::proofs::Numbered::asked_absent, crate::proofs::Added::added_not))]
     pub fn push(&mut self, words: &mut [u32], e: usize, item: Item) -> Result<(), Fault>
         ensures { elim result [
           | Ok _ ↦ pushed (length words.old) (edges_of words.old self.old) e item ≡ Ok (edges_of words.new self.new)
@@ -147,7 +145,6 @@ impl Edges {
     }
 
     // The first item of edge e, which is then gone.
-    #[tactic(auto, using(crate::proofs::Asked::popped_err))]
     pub fn pop(&mut self, words: &mut [u32], e: usize) -> Result<Item, Fault>
         ensures { elim result [
           | Ok x ↦ popped (length words.old) (edges_of words.old self.old) e ≡ Ok (x, edges_of words.new self.new)
@@ -160,7 +157,6 @@ impl Edges {
     }
 
     // Edge e without its items.
-    #[tactic(auto, using(crate::proofs::Numbered::there_not))]
     pub fn clear(&mut self, e: usize) -> Result<(), Fault>
         ensures { (ws : List ℕ) → elim result [
           | Ok _ ↦ cleared (edges_of ws self.old) e ≡ Ok (edges_of ws self.new)
@@ -173,7 +169,6 @@ impl Edges {
     }
 
     // Where in the lent words the free part of edge e is: room for all that it can still hold.
-    #[tactic(auto, using(crate::proofs::Numbered::asked_short, crate::proofs::Numbered::asked_absent))]
     pub fn free(&self, words: &[u32], e: usize) -> Result<Range<usize>, Fault>
         ensures place { asked (length words.now) (edges_of words.now self.now) e (Ok (free_range self.now e)) ≡ result }
         ensures within { IfOk result (λ r. (r.start ≤ r.end) × (r.end ≤ length words.now)) }
@@ -184,7 +179,6 @@ impl Edges {
     }
 
     // Takes up the first n items that were written into the free part of edge e.
-    #[tactic(auto, using(crate::proofs::Numbered::asked_short, crate::proofs::Numbered::asked_absent, crate::proofs::Added::added_not, crate::proofs::Slots::items_length))]
     pub fn take_up(&mut self, words: &[u32], e: usize, n: usize) -> Result<(), Fault>
         ensures { elim result [
           | Ok _ ↦ taken_up (length words.now) (edges_of words.now self.old) e (items_from (free_of words.now self.old e) 0 n) ≡ Ok (edges_of words.now self.new)

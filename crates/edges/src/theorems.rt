@@ -3,10 +3,8 @@ ghost use Rattle.edges.specs.Laws.{FirstInFirstOut, FreeIsFree};
 
 pub fn first_in_first_out()
     ensures { FirstInFirstOut }
-{
-}
+{}
 
 pub fn free_is_free()
     ensures { FreeIsFree }
-{
-}
+{}

@@ -1,7 +1,6 @@
 use Rattle.std.proofs.Common.{[], Ok, sym, refl, ap, ◌∙◌}
-use Rattle.std.proofs.lemmas.Result.{err_from_is_err_and}
 use Rattle.edges.proofs.Slots.{items_none}
-use Rattle.edges.proofs.Numbered.{there_is, there_not, edge_set}
+use Rattle.edges.proofs.Numbered.{there_is, edge_set}
 use Rattle.edges.proofs.state.Edges.clear.Goals as goal
 
 pub returns : goal.returns

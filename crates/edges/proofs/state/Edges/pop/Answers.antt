@@ -1,8 +1,6 @@
 use Rattle.std.proofs.Common.{Ok, refl, ap, ◌∙◌}
-use Rattle.std.proofs.lemmas.Result.{err_from_is_err_and}
 use Rattle.edges.specs.Queues.{taken}
 use Rattle.edges.specs.Held.{edges_of}
-use Rattle.edges.proofs.Asked.{popped_err}
 use Rattle.edges.proofs.Numbered.{asked_is, held_at, edge_set}
 use Rattle.edges.proofs.state.Edges.pop.Goals as goal
 

@@ -1,5 +1,4 @@
 use Rattle.std.proofs.Common.{[], ◌∷◌, refl, ap, ◌∙◌, arith}
-use Rattle.std.proofs.lemmas.Result.{err_from_is_err_and}
 use Rattle.edges.proofs.Slots.{items_none, items_cons}
 use Rattle.edges.proofs.Numbered.{asked_is}
 use Rattle.edges.proofs.Added.{added_is}

@@ -1,5 +1,4 @@
 use Rattle.std.proofs.Common.{refl, ◌∙◌, arith}
-use Rattle.std.proofs.lemmas.Result.{err_from_is_err_and}
 use Rattle.edges.specs.Held.{free_of}
 use Rattle.edges.proofs.Slots.{items_length}
 use Rattle.edges.proofs.Numbered.{asked_is}
