@@ -1,14 +1,12 @@
 use Rattle.std.proofs.Common.{[], ◌∷◌, refl, ap, ◌∙◌, arith}
 use Rattle.edges.proofs.Slots.{items_none, items_cons}
-use Rattle.edges.proofs.Numbered.{asked_is}
 use Rattle.edges.proofs.Added.{added_is}
 use Rattle.edges.proofs.state.Edges.push.Goals as goal
 
 pub returns : goal.returns
 returns c =
     let t = c.in_ok-head.ensures in
-    asked_is c.args.words.now c.args.self.now c.args.e _ (t.0, t.1.there)
-    ∙ added_is c.args.words.now c.put_at.new.words c.args.self.now c.deref_mut.result.now c.args.e 1 _ _ (c.args.item ∷ []) c.deref_mut.ensures.value
-    t.1 c.in_ok-more.ensures.1 c.in_ok-more.ensures.2 refl
+    added_is c.args.words.now c.put_at.new.words c.args.self.now c.deref_mut.result.now c.args.e 1 _ _ (c.args.item ∷ []) c.deref_mut.ensures.value t.0 t.1
+    c.in_ok-more.ensures.1 c.in_ok-more.ensures.2 refl
     (items_cons c.put_at.new.words _ 1 (omega arith) ∙ rw c.put_at.ensures.here (ap (λ is. c.args.item ∷ is) (items_none c.put_at.new.words _ 0 refl)))
     (λ j ne. c.put_at.ensures.others j (λ at. ne (omega arith, omega arith)))
