@@ -1,8 +1,9 @@
 -- Items in slots of four words.
-use Rattle.std.proofs.Common.{◌≡◌, ℕ, zero, suc, ◌+◌, ◌-◌, ◌*◌, ◌<◌, ◌≤◌, List, [], ◌∷◌, ◌++◌, length, get_or, sym, refl, ap, ◌∙◌, inl, inr, take, add-zero, zero-add, arith, set, length-set, get_or-set_other, get_or-set_same, length-take, length-drop, drop, Option, Some, None, unwrap_or}
+use Rattle.std.proofs.Common.{rules, ◌≡◌, ℕ, zero, suc, ◌+◌, ◌-◌, ◌*◌, ◌<◌, ◌≤◌, List, [], ◌∷◌, ◌++◌, length, get_or, sym, refl, ap, ◌∙◌, inl, inr, take, add-zero, zero-add, arith, set, length-take, length-drop, drop, Option, Some, None, unwrap_or}
 use borrow.Rule.Slice.PartMut.{put_mid}
-use Rattle.std.proofs.lemmas.List.{get_or_append_left, get_or-append_right, get_or-take, get_or-drop, length-take-le}
+use Rattle.std.proofs.lemmas.List.{places, get_or-take, get_or-drop}
 use Rattle.std.proofs.lemmas.Bool.{cases_lt}
+use Rattle.std.proofs.lemmas.Grind.{common_steps}
 use Rattle.items.specs.declared.Item.{Item}
 use Rattle.items.specs.declared.Item.TheVariants.{Record, Watermark, Barrier}
 use Rattle.items.specs.Words.{words_of, decoded, first_in}
@@ -24,50 +25,21 @@ put4 ws p t a b d = set (set (set (set ws p t) (p + 1) a) (p + 2) b) (p + 3) d
 -- four words were written: the slot that they are in, and the others
 pub put4_here : (ws : List ℕ) (k t a b d : ℕ) → 4 * k + 3 < length ws → item_at (put4 ws (4 * k) t a b d) k ≡ or_stop (decoded t a b d)
 put4_here ws k t a b d h =
-    let s0 : List ℕ = set ws (4 * k) t in
-    let s1 : List ℕ = set s0 (4 * k + 1) a in
-    let s2 : List ℕ = set s1 (4 * k + 2) b in
-    let l1 : 4 * k + 1 < length s0 = simp length-set (omega arith) in
-    let l2 : 4 * k + 2 < length s1 = simp length-set (omega arith) in
-    let l3 : 4 * k + 3 < length s2 = simp length-set (omega arith) in
-    let f : get_or (set s2 (4 * k + 3) d) (4 * k) 0 ≡ t =
-    get_or-set_other s2 (4 * k + 3) (4 * k) d 0 (omega arith) ∙ get_or-set_other s1 (4 * k + 2) (4 * k) b 0 (omega arith)
-    ∙ get_or-set_other s0 (4 * k + 1) (4 * k) a 0 (omega arith) ∙ get_or-set_same ws (4 * k) t 0 (omega arith) in
-    let g : get_or (set s2 (4 * k + 3) d) (4 * k + 1) 0 ≡ a =
-    get_or-set_other s2 (4 * k + 3) (4 * k + 1) d 0 (omega arith) ∙ get_or-set_other s1 (4 * k + 2) (4 * k + 1) b 0 (omega arith)
-    ∙ get_or-set_same s0 (4 * k + 1) a 0 l1 in
-    let i : get_or (set s2 (4 * k + 3) d) (4 * k + 2) 0 ≡ b =
-    get_or-set_other s2 (4 * k + 3) (4 * k + 2) d 0 (omega arith) ∙ get_or-set_same s1 (4 * k + 2) b 0 l2 in
-    let j : get_or (set s2 (4 * k + 3) d) (4 * k + 3) 0 ≡ d = get_or-set_same s2 (4 * k + 3) d 0 l3 in
+    let f : get_or (put4 ws (4 * k) t a b d) (4 * k) 0 ≡ t = grind (arith, common_steps) in
+    let g : get_or (put4 ws (4 * k) t a b d) (4 * k + 1) 0 ≡ a = grind (arith, common_steps) in
+    let i : get_or (put4 ws (4 * k) t a b d) (4 * k + 2) 0 ≡ b = grind (arith, common_steps) in
+    let j : get_or (put4 ws (4 * k) t a b d) (4 * k + 3) 0 ≡ d = grind (arith, common_steps) in
     rw (f, g, i, j) refl
 
 pub put4_other : (ws : List ℕ) (k j t a b d : ℕ) → (j ≡ k → ⊥) → item_at (put4 ws (4 * k) t a b d) j ≡ item_at ws j
 put4_other ws k j t a b d ne =
-    let s0 : List ℕ = set ws (4 * k) t in
-    let s1 : List ℕ = set s0 (4 * k + 1) a in
-    let s2 : List ℕ = set s1 (4 * k + 2) b in
-    item_same (set s2 (4 * k + 3) d) ws j j (λ p q l u s.
-    let same : p ≡ q = omega arith in
-    get_or-set_other s2 (4 * k + 3) p d 0 (omega arith) ∙ get_or-set_other s1 (4 * k + 2) p b 0 (omega arith)
-    ∙ get_or-set_other s0 (4 * k + 1) p a 0 (omega arith) ∙ get_or-set_other ws (4 * k) p t 0 (omega arith) ∙ ap (λ (x : ℕ). get_or ws x 0) same)
+    item_same (put4 ws (4 * k) t a b d) ws j j (λ p q l u s. grind (arith, common_steps))
 
 -- the words of an item stand for it
 pub words_tell_lem : (i : Item) → or_stop (decoded (get_or (words_of i) 0 0) (get_or (words_of i) 1 0) (get_or (words_of i) 2 0) (get_or (words_of i) 3 0)) ≡ i
 words_tell_lem (Record r) = refl
 words_tell_lem (Watermark t) = refl
 words_tell_lem (Barrier n) = refl
-
--- after a write to the k places from a on: the places before and after
-mid_before : (a k : ℕ) (ws ys : List ℕ) (p : ℕ) → a ≤ length ws → p < a → get_or (put_mid a k ws ys) p 0 ≡ get_or ws p 0
-mid_before a k ws ys p fits h =
-    let l : p < length (take a ws) = simp length-take (omega arith) in
-    rw (get_or_append_left (take a ws) _ 0 p l) (get_or-take a ws p 0 h)
-
-mid_after : (a k : ℕ) (ws ys : List ℕ) (p : ℕ) → a ≤ length ws → length ys ≡ k → a + k ≤ p → get_or (put_mid a k ws ys) p 0 ≡ get_or ws p 0
-mid_after a k ws ys p fits len u =
-    let l : length (take a ws) ≡ a = length-take-le a ws fits in
-    let e : a + (k + (p - a - k)) ≡ p = omega arith in
-    rw (get_or-append_right (take a ws) _ a p 0 l (omega arith), get_or-append_right ys _ k (p - a) 0 len (omega arith), get_or-drop, get_or-drop, e) refl
 
 -- a slot that is not in the part that was written
 pub slot_apart : (s m : ℕ) (ws ys : List ℕ) (j : ℕ) → 4 * s ≤ length ws → length ys ≡ 4 * m → (s ≤ j → j < s + m → ⊥) →
@@ -76,10 +48,9 @@ slot_apart s m ws ys j fits len apart =
     item_same (put_mid (4 * s) (4 * m) ws ys) ws j j (λ p q l u t.
     let same : p ≡ q = omega arith in
     elim (cases_lt p (4 * s)) [
-      | inl before ↦ mid_before (4 * s) (4 * m) ws ys p fits before
-      | inr after ↦ mid_after (4 * s) (4 * m) ws ys p fits len (omega arith)
-    ]
-    ∙ ap (λ (x : ℕ). get_or ws x 0) same)
+      | inl before ↦ rw same (search (rules, places))
+      | inr after ↦ let outside : 4 * s + 4 * m ≤ q = omega arith in rw same (search (rules, places))
+    ])
 
 -- the item in four words, and in a slot by its four words
 first_of_four : (vs : List ℕ) → 4 ≤ length vs → unwrap_or (first_in vs) (Barrier 0) ≡ or_stop (decoded (get_or vs 0 0) (get_or vs 1 0) (get_or vs 2 0) (get_or vs 3 0))

@@ -1,4 +1,4 @@
-use Rattle.std.proofs.Common.{refl, ◌∙◌, arith}
+use Rattle.std.proofs.Common.{refl, arith}
 use Rattle.edges.specs.Held.{free_of}
 use Rattle.edges.proofs.Slots.{items_length}
 use Rattle.edges.proofs.Added.{added_is}
