@@ -1,7 +1,7 @@
 -- The free part of an edge, lent on.
-use Rattle.std.proofs.Common.{◌≡◌, ℕ, ◌+◌, ◌-◌, ◌*◌, ◌/◌, ◌≤◌, List, [], length, get_or, take, drop, sym, refl, ap, ◌∙◌, arith}
+use Rattle.std.proofs.Common.{rules, ◌≡◌, ℕ, ◌+◌, ◌-◌, ◌*◌, ◌/◌, ◌<◌, ◌≤◌, List, [], length, get_or, take, drop, sym, refl, ap, ◌∙◌, arith}
 use borrow.Rule.Slice.PartMut.{put_mid}
-use Rattle.std.proofs.lemmas.List.{get_or-take, get_or-drop, length-take-le, take_at, drop_at, set-get_or}
+use Rattle.std.proofs.lemmas.List.{places, length-take-le, take_at, drop_at, set-get_or}
 use Rattle.edges.specs.declared.head.Head.{Head}
 use Rattle.edges.specs.declared.state.Edges.{Edges}
 use Rattle.edges.specs.Held.{IsHead, item_at, items_from, queue_of, edges_of, nobody, free_from, free_words, free_of}
@@ -18,7 +18,8 @@ free_items ws q e n h at fits =
     (items_same ws (take (4 * (256 - h.len)) (drop (4 * behind e h) ws)) (behind e h) 0 n
     (λ a b l u t. item_same ws (take (4 * (256 - h.len)) (drop (4 * behind e h) ws)) a b (λ p r pl pu pt.
     let same : p ≡ 4 * behind e h + r = omega arith in
-    rw same (sym (get_or-take (4 * (256 - h.len)) (drop (4 * behind e h) ws) r 0 (omega arith) ∙ get_or-drop (4 * behind e h) ws r 0)))))
+    let inside : r < 4 * (256 - h.len) = omega arith in
+    rw same (search (rules, places)))))
 
 pub free_is_free_lem : FreeIsFree
 free_is_free_lem q ws ys e there enough len =

@@ -41,6 +41,8 @@ words_tell_lem (Record r) = refl
 words_tell_lem (Watermark t) = refl
 words_tell_lem (Barrier n) = refl
 
+pub ruleset put = (put4_here, put4_other, words_tell_lem)
+
 -- a slot that is not in the part that was written
 pub slot_apart : (s m : ℕ) (ws ys : List ℕ) (j : ℕ) → 4 * s ≤ length ws → length ys ≡ 4 * m → (s ≤ j → j < s + m → ⊥) →
     item_at (put_mid (4 * s) (4 * m) ws ys) j ≡ item_at ws j
@@ -64,13 +66,13 @@ first_of_four (a ∷ b ∷ c ∷ d ∷ vs) h = unwrapped (decoded a b c d)
     unwrapped (Some i) = refl
     unwrapped None = refl
 
-pub loaded : (ws : List ℕ) (k : ℕ) → 4 * k + 3 < length ws → unwrap_or (first_in (take 4 (drop (4 * k) ws))) (Barrier 0) ≡ item_at ws k
-loaded ws k h =
+pub loaded : (ws : List ℕ) (n k : ℕ) → n ≡ 4 → 4 * k + 3 < length ws → unwrap_or (first_in (take n (drop (4 * k) ws))) (Barrier 0) ≡ item_at ws k
+loaded ws n k four h =
     let vs : List ℕ = take 4 (drop (4 * k) ws) in
     let at : (n m : ℕ) → n < 4 → 4 * k + n ≡ m → get_or vs n 0 ≡ get_or ws m 0 =
     λ n m lt is. get_or-take 4 (drop (4 * k) ws) n 0 lt ∙ get_or-drop (4 * k) ws n 0 ∙ ap (λ (x : ℕ). get_or ws x 0) is in
-    first_of_four vs (simp (length-take, length-drop) (omega arith))
-    ∙ rw (at 0 (4 * k) (omega arith) (omega arith), at 1 _ (omega arith) refl, at 2 _ (omega arith) refl, at 3 _ (omega arith) refl) refl
+    rw four (first_of_four vs (simp (length-take, length-drop) (omega arith))
+    ∙ rw (at 0 (4 * k) (omega arith) (omega arith), at 1 _ (omega arith) refl, at 2 _ (omega arith) refl, at 3 _ (omega arith) refl) refl)
 
 -- two ranges hold the same items where each slot of the one is as that of the other
 pub items_same : (ws vs : List ℕ) (k m n : ℕ) →
@@ -122,3 +124,5 @@ rest_moved ws vs e k n pos H =
     ∙ ap (λ is. item_at ws (516 * e + k) ∷ is) (items_same ws vs (516 * e + (k + 1)) (516 * e + 0) (n - 1)
     (λ a b l u s. item_same ws vs a b (λ p q pl pu ps.
     let at : p ≡ 4 * (k + 1) + q = omega arith in rw at (sym (H q (omega arith) (omega arith))))))
+
+pub ruleset rest = (rest_on, items_none)

@@ -12,6 +12,7 @@ use items::{Item, Refusal};
 use std::ops::Range;
 
 // The item in a slot.
+#[tactic(auto, using(crate::proofs::Slots::loaded))]
 fn item_at(words: &[u32], slot: usize) -> Item
     requires { 4 * slot + 3 < length words.now }
     ensures { result ≡ item_at words.now slot }
@@ -21,6 +22,7 @@ fn item_at(words: &[u32], slot: usize) -> Item
 }
 
 // Puts an item into a slot; the other slots stay.
+#[tactic(auto, using(crate::proofs::Slots::put))]
 fn put_at(words: &mut [u32], slot: usize, item: Item)
     requires { 4 * slot + 3 < length words.old }
     ensures here { item_at words.new slot ≡ item }
@@ -38,6 +40,7 @@ fn put_at(words: &mut [u32], slot: usize, item: Item)
 // Where the items of edge e stand once the first is taken; the slots of the other edges stay. The items are moved down
 // only when the lower half is used up, so once in 256 calls at most; and an edge that gets empty starts at slot 0 again,
 // so that the words in use stay few.
+#[tactic(auto, using(crate::proofs::Slots::rest))]
 fn advance(words: &mut [u32], e: usize, head: Head) -> Head
     requires { (2064 * e + 2064 ≤ length words.old) × (0 < head.len) }
     ensures here { queue_of words.old e head ≡ item_at words.old (516 * e + head.start) ∷ queue_of words.new e result }
