@@ -98,6 +98,10 @@ items_cons ws k (suc n) h =
     let f : k + 1 ≡ suc k = omega arith in
     rw (e, f) refl
 
+pub items_one : (ws : List ℕ) (k : ℕ) (x : Item) → item_at ws k ≡ x → items_from ws k 1 ≡ x ∷ []
+unfolding items_from
+items_one ws k x e = rw e refl
+
 -- the first n slots and m behind them
 pub items_append : (ws : List ℕ) (k n m : ℕ) → items_from ws k (n + m) ≡ items_from ws k n ++ items_from ws (k + n) m
 unfolding items_from
