@@ -25,7 +25,7 @@ added_is ws vs q gs e n h g xs same enough at start len many put others =
     ∙ sym (held_at ws q e h at) in
     let here : queue_of vs e g ≡ on (edges_of ws q) e ++ xs =
     rw (start, len) (items_append vs (516 * e + h.start) h.len n ∙ rw (kept, put) refl) in
-    asked_is ws q e _ (enough, at.there)
+    asked_is ws q e _ enough at.there
     ∙ rw (le-leb (length (on (edges_of ws q) e) + length xs) 256 (omega arith))
     (ap Ok (sym (edge_set ws vs q gs e g (on (edges_of ws q) e ++ xs) same at.there here
     (λ j apart. others j (λ r. omega (arith, r.0, r.1))))))
@@ -35,7 +35,7 @@ pub added_not : (ws : List ℕ) (q : Edges) (e : ℕ) (xs : List Item) → 2064 
 added_not ws q e xs enough lt more =
     let at : IsHead q e (head_of q e) = record { there = lt; read = refl } in
     let l : length (on (edges_of ws q) e) ≡ (head_of q e).len = length_at ws q e (head_of q e) at in
-    asked_is ws q e _ (enough, lt) ∙ rw (lt-leb (length (on (edges_of ws q) e) + length xs) 256 (omega arith)) refl
+    asked_is ws q e _ enough lt ∙ rw (lt-leb (length (on (edges_of ws q) e) + length xs) 256 (omega arith)) refl
 
 pub ruleset refused = (there_not, asked_short, asked_absent, popped_not, added_not, items_length)
 

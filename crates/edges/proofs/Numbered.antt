@@ -1,7 +1,8 @@
 -- The edges by their numbers.
 use Rattle.std.proofs.Common.{◌≡◌, ℕ, zero, suc, ◌+◌, ◌*◌, ◌/◌, ◌<◌, ◌≤◌, List, [], ◌∷◌, length, get_or, set, replicate, Bool, true, false, cond, ltb, Ok, Err, Result, sym, refl, ap, ◌∙◌, inl, inr, add-zero, zero-add, arith, length-set}
 use Rattle.std.proofs.lemmas.List.{ext_get_or, get_or-set_same, get_or-set_other}
-use Rattle.std.proofs.lemmas.Bool.{cases_eq, lt-ltb, le-ltb}
+use Rattle.std.proofs.lemmas.Bool.{cases_eq}
+use Rattle.std.proofs.lemmas.Bool.Decides.{nat_tests}
 use Rattle.arrayvec.specs.ArrayVec.{with_items}
 use Rattle.arrayvec.proofs.ArrayVecLemmas.{items-with_items}
 use Rattle.items.specs.declared.Item.{Item}
@@ -68,33 +69,23 @@ count_is ws q = queues_length ws 0 q.heads.items
 
 -- a call on an edge that is there, and on one that isn't
 pub there_is : {A : Type 0} (ws : List ℕ) (q : Edges) (e : ℕ) (x : Result A Fault) → e < length q.heads.items → there (edges_of ws q) e x ≡ x
-there_is ws q e x h =
-    let l : length (edges_of ws q) ≡ length q.heads.items = count_is ws q in
-    rw (lt-ltb e (length (edges_of ws q)) (omega arith)) refl
+there_is ws q e x h = grind (arith, nat_tests, count_is)
 
 pub there_not : {A : Type 0} (ws : List ℕ) (q : Edges) (e : ℕ) (x : Result A Fault) → length q.heads.items ≤ e → there (edges_of ws q) e x ≡ Err (Refused NotThere)
-there_not ws q e x h =
-    let l : length (edges_of ws q) ≡ length q.heads.items = count_is ws q in
-    rw (le-ltb e (length (edges_of ws q)) (omega arith)) refl
+there_not ws q e x h = grind (arith, nat_tests, count_is)
 
 -- the same where words are lent
-pub asked_is : {A : Type 0} (ws : List ℕ) (q : Edges) (e : ℕ) (x : Result A Fault) → (2064 * length q.heads.items ≤ length ws) × (e < length q.heads.items) →
-    asked (length ws) (edges_of ws q) e x ≡ x
-asked_is ws q e x h =
-    let l : length (edges_of ws q) ≡ length q.heads.items = count_is ws q in
-    rw (le-ltb (length ws) (2064 * length (edges_of ws q)) (omega (arith, h.0))) (there_is ws q e x h.1)
+pub asked_is : {A : Type 0} (ws : List ℕ) (q : Edges) (e : ℕ) (x : Result A Fault) → 2064 * length q.heads.items ≤ length ws →
+    e < length q.heads.items → asked (length ws) (edges_of ws q) e x ≡ x
+asked_is ws q e x enough h = grind (arith, nat_tests, count_is)
 
 pub asked_short : {A : Type 0} (ws : List ℕ) (q : Edges) (e : ℕ) (x : Result A Fault) → length ws < 2064 * length q.heads.items →
     asked (length ws) (edges_of ws q) e x ≡ Err ShortMemory
-asked_short ws q e x h =
-    let l : length (edges_of ws q) ≡ length q.heads.items = count_is ws q in
-    rw (lt-ltb (length ws) (2064 * length (edges_of ws q)) (omega arith)) refl
+asked_short ws q e x h = grind (arith, nat_tests, count_is)
 
 pub asked_absent : {A : Type 0} (ws : List ℕ) (q : Edges) (e : ℕ) (x : Result A Fault) → 2064 * length q.heads.items ≤ length ws →
     length q.heads.items ≤ e → asked (length ws) (edges_of ws q) e x ≡ Err (Refused NotThere)
-asked_absent ws q e x enough h =
-    let l : length (edges_of ws q) ≡ length q.heads.items = count_is ws q in
-    rw (le-ltb (length ws) (2064 * length (edges_of ws q)) (omega arith)) (there_not ws q e x h)
+asked_absent ws q e x enough h = grind (arith, nat_tests, count_is)
 
 -- edges whose heads count nothing
 pub queues_none : (ws : List ℕ) (e : ℕ) (h : Head) (n : ℕ) → h.len ≡ 0 → queues_from ws e (replicate n h) ≡ replicate n []
@@ -116,13 +107,13 @@ counted_is ws q e lt = there_is ws q e _ lt ∙ ap Ok (length_at ws q e (head_of
 pub peeked_none : (ws : List ℕ) (q : Edges) (e : ℕ) → 2064 * length q.heads.items ≤ length ws → e < length q.heads.items →
     (head_of q e).len ≡ 0 → peeked (length ws) (edges_of ws q) e ≡ Err (Refused NothingToTake)
 peeked_none ws q e enough lt none =
-    asked_is ws q e _ (enough, lt)
+    asked_is ws q e _ enough lt
     ∙ ap first_on (queues_at ws q.heads.items e lt ∙ items_none ws (516 * e + (head_of q e).start) (head_of q e).len none)
 
 pub peeked_first : (ws : List ℕ) (q : Edges) (e : ℕ) → 2064 * length q.heads.items ≤ length ws → e < length q.heads.items →
     0 < (head_of q e).len → peeked (length ws) (edges_of ws q) e ≡ Ok (item_at ws (516 * e + (head_of q e).start))
 peeked_first ws q e enough lt some =
-    asked_is ws q e _ (enough, lt)
+    asked_is ws q e _ enough lt
     ∙ ap first_on (queues_at ws q.heads.items e lt ∙ items_cons ws (516 * e + (head_of q e).start) (head_of q e).len some)
 
 -- what can't be seen can't be taken

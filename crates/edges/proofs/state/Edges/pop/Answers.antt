@@ -7,7 +7,7 @@ use Rattle.edges.proofs.state.Edges.pop.Goals as goal
 pub returns : goal.returns
 returns c =
     let t = c.in_ok-head.ensures in
-    asked_is c.args.words.now c.args.self.now c.args.e _ (t.0, t.1.there)
+    asked_is c.args.words.now c.args.self.now c.args.e _ t.0 t.1.there
     ∙ ap (taken (edges_of c.args.words.now c.args.self.now) c.args.e)
     (held_at c.args.words.now c.args.self.now c.args.e _ t.1 ∙ c.advance.ensures.here)
     ∙ ap Ok (rw (
