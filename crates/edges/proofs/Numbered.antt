@@ -71,21 +71,10 @@ count_is ws q = queues_length ws 0 q.heads.items
 pub there_is : {A : Type 0} (ws : List ℕ) (q : Edges) (e : ℕ) (x : Result A Fault) → e < length q.heads.items → there (edges_of ws q) e x ≡ x
 there_is ws q e x h = grind (arith, nat_tests, count_is)
 
-pub there_not : {A : Type 0} (ws : List ℕ) (q : Edges) (e : ℕ) (x : Result A Fault) → length q.heads.items ≤ e → there (edges_of ws q) e x ≡ Err (Refused NotThere)
-there_not ws q e x h = grind (arith, nat_tests, count_is)
-
 -- the same where words are lent
 pub asked_is : {A : Type 0} (ws : List ℕ) (q : Edges) (e : ℕ) (x : Result A Fault) → 2064 * length q.heads.items ≤ length ws →
     e < length q.heads.items → asked (length ws) (edges_of ws q) e x ≡ x
 asked_is ws q e x enough h = grind (arith, nat_tests, count_is)
-
-pub asked_short : {A : Type 0} (ws : List ℕ) (q : Edges) (e : ℕ) (x : Result A Fault) → length ws < 2064 * length q.heads.items →
-    asked (length ws) (edges_of ws q) e x ≡ Err ShortMemory
-asked_short ws q e x h = grind (arith, nat_tests, count_is)
-
-pub asked_absent : {A : Type 0} (ws : List ℕ) (q : Edges) (e : ℕ) (x : Result A Fault) → 2064 * length q.heads.items ≤ length ws →
-    length q.heads.items ≤ e → asked (length ws) (edges_of ws q) e x ≡ Err (Refused NotThere)
-asked_absent ws q e x enough h = grind (arith, nat_tests, count_is)
 
 -- edges whose heads count nothing
 pub queues_none : (ws : List ℕ) (e : ℕ) (h : Head) (n : ℕ) → h.len ≡ 0 → queues_from ws e (replicate n h) ≡ replicate n []
@@ -102,7 +91,7 @@ length_at ws q e h at = ap length (held_at ws q e h at) ∙ items_length ws (516
 
 -- what is counted and seen there
 pub counted_is : (ws : List ℕ) (q : Edges) (e : ℕ) → e < length q.heads.items → counted (edges_of ws q) e ≡ Ok (head_of q e).len
-counted_is ws q e lt = there_is ws q e _ lt ∙ ap Ok (length_at ws q e (head_of q e) (record { there = lt; read = refl }))
+counted_is ws q e lt = grind (arith, there_is, queues_at, items_length)
 
 pub peeked_none : (ws : List ℕ) (q : Edges) (e : ℕ) → 2064 * length q.heads.items ≤ length ws → e < length q.heads.items →
     (head_of q e).len ≡ 0 → peeked (length ws) (edges_of ws q) e ≡ Err (Refused NothingToTake)
