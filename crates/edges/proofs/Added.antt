@@ -1,6 +1,6 @@
 -- Items more on an edge, in the slots behind its items.
 use Rattle.std.proofs.Common.{◌≡◌, ℕ, ◌+◌, ◌*◌, ◌<◌, ◌≤◌, List, ◌++◌, length, set, Ok, Err, sym, refl, ap, ◌∙◌, arith}
-use Rattle.std.proofs.lemmas.Bool.{le-leb, lt-leb}
+use Rattle.std.proofs.lemmas.Bool.{le-leb}
 use Rattle.std.proofs.lemmas.Bool.Decides.{nat_tests}
 use Rattle.arrayvec.specs.ArrayVec.{with_items}
 use Rattle.items.specs.declared.Item.{Item}
@@ -11,7 +11,7 @@ use Rattle.edges.specs.declared.state.Edges.{Edges}
 use Rattle.edges.specs.Queues.{on, asked, added}
 use Rattle.edges.specs.Held.{head_of, IsHead, item_at, items_from, queue_of, queues_from, edges_of}
 use Rattle.edges.proofs.Slots.{items_same, items_append, items_length}
-use Rattle.edges.proofs.Numbered.{count_is, asked_is, counted_is, peeked_none, peeked_first, popped_not, edge_set, held_at, length_at, behind}
+use Rattle.edges.proofs.Numbered.{count_is, asked_is, counted_is, peeked_none, peeked_first, popped_not, edge_set, held_at, length_at, queues_at, behind}
 
 -- n slots behind the items were written, or hold what is to be added already; g is the new head
 pub added_is : (ws vs : List ℕ) (q : Edges) (gs : List Head) (e n : ℕ) (h g : Head) (xs : List Item) → gs ≡ q.heads.items → 2064 * length q.heads.items ≤ length ws → IsHead q e h →
@@ -33,9 +33,6 @@ added_is ws vs q gs e n h g xs same enough at start len many put others =
 
 pub added_not : (ws : List ℕ) (q : Edges) (e : ℕ) (xs : List Item) → 2064 * length q.heads.items ≤ length ws → e < length q.heads.items →
     256 < (head_of q e).len + length xs → asked (length ws) (edges_of ws q) e (added (edges_of ws q) e xs) ≡ Err (Refused NoRoom)
-added_not ws q e xs enough lt more =
-    let at : IsHead q e (head_of q e) = record { there = lt; read = refl } in
-    let l : length (on (edges_of ws q) e) ≡ (head_of q e).len = length_at ws q e (head_of q e) at in
-    asked_is ws q e _ enough lt ∙ rw (lt-leb (length (on (edges_of ws q) e) + length xs) 256 (omega arith)) refl
+added_not ws q e xs enough lt more = grind (arith, nat_tests, asked_is, queues_at, items_length)
 
 pub ruleset come_to = (nat_tests, count_is, counted_is, asked_is, peeked_none, peeked_first, popped_not, added_not, items_length)

@@ -95,15 +95,11 @@ counted_is ws q e lt = grind (arith, there_is, queues_at, items_length)
 
 pub peeked_none : (ws : List ℕ) (q : Edges) (e : ℕ) → 2064 * length q.heads.items ≤ length ws → e < length q.heads.items →
     (head_of q e).len ≡ 0 → peeked (length ws) (edges_of ws q) e ≡ Err (Refused NothingToTake)
-peeked_none ws q e enough lt none =
-    asked_is ws q e _ enough lt
-    ∙ ap first_on (queues_at ws q.heads.items e lt ∙ items_none ws (516 * e + (head_of q e).start) (head_of q e).len none)
+peeked_none ws q e enough lt none = grind (arith, asked_is, queues_at, items_none)
 
 pub peeked_first : (ws : List ℕ) (q : Edges) (e : ℕ) → 2064 * length q.heads.items ≤ length ws → e < length q.heads.items →
     0 < (head_of q e).len → peeked (length ws) (edges_of ws q) e ≡ Ok (item_at ws (516 * e + (head_of q e).start))
-peeked_first ws q e enough lt some =
-    asked_is ws q e _ enough lt
-    ∙ ap first_on (queues_at ws q.heads.items e lt ∙ items_cons ws (516 * e + (head_of q e).start) (head_of q e).len some)
+peeked_first ws q e enough lt some = grind (arith, asked_is, queues_at, items_cons)
 
 -- what can't be seen can't be taken
 pub popped_not : (lent : ℕ) (qs : Queues) (e : ℕ) (f : Fault) → peeked lent qs e ≡ Err f → popped lent qs e ≡ Err f
