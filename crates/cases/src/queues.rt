@@ -186,11 +186,11 @@ fn taken_up(rt: HostRuntime) -> Result<(), Fail> {
     let mut words = vec![in rt.alloc(); 0u32; 6192]?;
     let mut edges = empty(3)?;
     fill(&rt, &mut edges, &mut words, 1, 0, 2);
-    let Ok((from, to)) = edges.free(&words, 1) else {
+    let Ok(part) = edges.free(&words, 1) else {
         return Err(Fail::new("no free part"));
     };
-    assert_eq!(rt; (from, to), (2072, 3088));
-    let free = &mut words[from..to];
+    assert_eq!(rt; part, 2072..3088);
+    let free = &mut words[part];
     assert!(rt; free.len() == 1016);
     assert!(rt; item(2).store(&mut free[0..4]).is_ok());
     assert!(rt; item(3).store(&mut free[4..8]).is_ok());
@@ -199,7 +199,7 @@ fn taken_up(rt: HostRuntime) -> Result<(), Fail> {
     assert_eq!(rt; told(edges.take_up(&words, 1, 255)), Err(NO_ROOM));
     assert_eq!(rt; told(edges.take_up(&words, 1, 3)), Ok(()));
     assert_eq!(rt; told(edges.len(1)), Ok(5));
-    assert_eq!(rt; told(edges.free(&words, 1)), Ok((2084, 3088)));
+    assert_eq!(rt; told(edges.free(&words, 1)), Ok(2084..3088));
     fill(&rt, &mut edges, &mut words, 1, 5, 6);
     drain(&rt, &mut edges, &mut words, 1, 0, 6);
     assert_eq!(rt; told(edges.len(1)), Ok(0));
@@ -211,7 +211,7 @@ fn no_items_taken_up(rt: HostRuntime) -> Result<(), Fail> {
     let mut words = vec![in rt.alloc(); 0u32; 2064]?;
     assert!(rt; words.len() == 2064);
     let mut edges = empty(1)?;
-    assert_eq!(rt; told(edges.free(&words, 0)), Ok((0, 1024)));
+    assert_eq!(rt; told(edges.free(&words, 0)), Ok(0..1024));
     words[0..12].copy_from_slice(&[4, 1, 2, 3, 2, 0, 10, 0, 3, 1, 7, 0]);
     assert_eq!(rt; told(edges.take_up(&words, 0, 257)), Err(NO_ROOM));
     assert_eq!(rt; told(edges.take_up(&words, 0, 256)), Ok(()));

@@ -1,67 +1,40 @@
 -- The free part of an edge, lent on.
-use Rattle.std.proofs.Common.{◌≡◌, ℕ, ◌+◌, ◌-◌, ◌*◌, ◌/◌, ◌<◌, ◌≤◌, ◌⊎◌, List, [], length, get_or, take, drop, sym, refl, ap, ◌∙◌, inl, inr, arith, length-take}
+use Rattle.std.proofs.Common.{rules, ◌≡◌, ℕ, ◌+◌, ◌-◌, ◌*◌, ◌/◌, ◌<◌, ◌≤◌, List, [], length, get_or, take, drop, sym, refl, ap, ◌∙◌, arith}
 use borrow.Rule.Slice.PartMut.{put_mid}
-use Rattle.std.proofs.lemmas.List.{get_or_append_left, get_or-append_right, get_or-take, get_or-drop, length-take-le, take_at, drop_at, set-get_or, get_or_default}
-use Rattle.std.proofs.lemmas.Bool.{cases_lt}
+use Rattle.std.proofs.lemmas.List.{places, length-take-le, take_at, drop_at, set-get_or}
 use Rattle.edges.specs.declared.head.Head.{Head}
 use Rattle.edges.specs.declared.state.Edges.{Edges}
-use Rattle.edges.specs.Held.{item_at, items_from, queue_of, edges_of, nobody, free_from, free_words, free_of}
+use Rattle.edges.specs.Held.{IsHead, item_at, items_from, queue_of, edges_of, nobody, free_from, free_words, free_of}
 use Rattle.edges.specs.Queues.{on}
 use Rattle.edges.specs.Laws.{FreeIsFree}
-use Rattle.edges.proofs.Slots.{item_same, items_same}
+use Rattle.edges.proofs.Slots.{item_same, items_same, slot_apart}
 use Rattle.edges.proofs.Numbered.{queues_at, queues_set, apart, behind}
 
 -- the items that were written into the free part of edge e stand in the slots behind its items
-pub free_items : (ws : List ℕ) (q : Edges) (e n : ℕ) (d : Head) → e < length q.heads → (get_or q.heads e d).len + n ≤ 256 →
-    items_from ws (behind q e d) n ≡ items_from (free_of ws q e) 0 n
-free_items ws q e n d le fits =
-    let h : Head = get_or q.heads e nobody in
-    let s : get_or q.heads e d ≡ h = get_or_default q.heads e d nobody le in
-    let f : h.len + n ≤ 256 = rw s at fits in
-    rw s (items_same ws (free_of ws q e) (516 * e + h.start + h.len) 0 n
-    (λ a b l u t. item_same ws (free_of ws q e) a b (λ p r pl pu pt.
-    let at : p ≡ free_from q e + r = omega arith in
-    rw at (sym (get_or-take (free_words q e) (drop (free_from q e) ws) r 0 (omega arith) ∙ get_or-drop (free_from q e) ws r 0)))))
-
--- after a write to the k places from a on: the places before and after
-mid_before : (a k : ℕ) (ws ys : List ℕ) (p : ℕ) → a ≤ length ws → p < a → get_or (put_mid a k ws ys) p 0 ≡ get_or ws p 0
-mid_before a k ws ys p fits h =
-    let l : p < length (take a ws) = simp length-take (omega arith) in
-    rw (get_or_append_left (take a ws) _ 0 p l) (get_or-take a ws p 0 h)
-
-mid_after : (a k : ℕ) (ws ys : List ℕ) (p : ℕ) → a ≤ length ws → length ys ≡ k → a + k ≤ p → get_or (put_mid a k ws ys) p 0 ≡ get_or ws p 0
-mid_after a k ws ys p fits len u =
-    let l : length (take a ws) ≡ a = length-take-le a ws fits in
-    let e : a + (k + (p - a - k)) ≡ p = omega arith in
-    rw (get_or-append_right (take a ws) _ a p 0 l (omega arith), get_or-append_right ys _ k (p - a) 0 len (omega arith), get_or-drop, get_or-drop, e) refl
-
--- a slot that is not in the part that was written
-slot_apart : (s m : ℕ) (ws ys : List ℕ) (j : ℕ) → 4 * s ≤ length ws → length ys ≡ 4 * m → (j < s) ⊎ (s + m ≤ j) →
-    item_at (put_mid (4 * s) (4 * m) ws ys) j ≡ item_at ws j
-slot_apart s m ws ys j fits len apart =
-    item_same (put_mid (4 * s) (4 * m) ws ys) ws j j (λ p q l u t.
-    let same : p ≡ q = omega arith in
-    elim apart [
-      | inl before ↦ mid_before (4 * s) (4 * m) ws ys p fits (omega arith)
-      | inr after ↦ mid_after (4 * s) (4 * m) ws ys p fits len (omega arith)
-    ]
-    ∙ ap (λ (x : ℕ). get_or ws x 0) same)
+pub free_items : (ws : List ℕ) (q : Edges) (e n : ℕ) (h : Head) → IsHead q e h → h.len + n ≤ 256 →
+    items_from ws (behind e h) n ≡ items_from (free_of ws q e) 0 n
+free_items ws q e n h at fits =
+    rw at.read
+    (items_same ws (take (4 * (256 - h.len)) (drop (4 * behind e h) ws)) (behind e h) 0 n
+    (λ a b l u t. item_same ws (take (4 * (256 - h.len)) (drop (4 * behind e h) ws)) a b (λ p r pl pu pt.
+    let same : p ≡ 4 * behind e h + r = omega arith in
+    let inside : r < 4 * (256 - h.len) = omega arith in
+    rw same (search (rules, places)))))
 
 pub free_is_free_lem : FreeIsFree
 free_is_free_lem q ws ys e there enough len =
-    let h : Head = get_or q.heads e nobody in
+    let h : Head = get_or q.heads.items e nobody in
     let s : ℕ = 516 * e + h.start + h.len in
     let vs : List ℕ = put_mid (free_from q e) (free_words q e) ws ys in
     let fits : 4 * s ≤ length ws = omega arith in
     let here : queue_of vs e h ≡ on (edges_of ws q) e =
     items_same vs ws (516 * e + h.start) (516 * e + h.start) h.len
-    (λ a b l u t. let same : a ≡ b = omega arith in slot_apart s (256 - h.len) ws ys a fits len (inl (omega arith)) ∙ ap (item_at ws) same)
-    ∙ sym (queues_at ws q.heads q.count e there) in
+    (λ a b l u t. let same : a ≡ b = omega arith in slot_apart s (256 - h.len) ws ys a fits len (λ from to. omega arith) ∙ ap (item_at ws) same)
+    ∙ sym (queues_at ws q.heads.items e there) in
     let others : (j : ℕ) → (j / 516 ≡ e → ⊥) → item_at vs j ≡ item_at ws j =
-    λ j ne. slot_apart s (256 - h.len) ws ys j fits len
-    (elim (cases_lt j s) [ inl before ↦ inl before | inr after ↦ inr (omega arith) ]) in
+    λ j ne. slot_apart s (256 - h.len) ws ys j fits len (λ from to. omega arith) in
     let same : edges_of vs q ≡ edges_of ws q =
-    queues_set ws vs q.heads q.heads q.count e (on (edges_of ws q) e) there here (λ d l ne. apart ws vs e d (get_or q.heads d nobody) ne others)
+    queues_set ws vs q.heads.items q.heads.items e (on (edges_of ws q) e) refl there here (λ d l ne. apart ws vs e d (get_or q.heads.items d nobody) ne others)
     ∙ set-get_or (edges_of ws q) e [] in
     let front : length (take (free_from q e) ws) ≡ free_from q e = length-take-le (free_from q e) ws fits in
     (same, rw (drop_at (take (free_from q e) ws) _ (free_from q e) front, take_at ys _ (free_words q e) len) refl)

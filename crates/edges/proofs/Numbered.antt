@@ -1,47 +1,51 @@
 -- The edges by their numbers.
-use Rattle.std.proofs.Common.{◌≡◌, ℕ, zero, suc, ◌+◌, ◌*◌, ◌/◌, ◌<◌, ◌≤◌, ◌⊎◌, List, [], length, get_or, set, replicate, Err, Result, sym, refl, ap, ◌∙◌, inl, inr, add-zero, zero-add, arith, length-set}
-use Rattle.std.proofs.lemmas.List.{ext_get_or, get_or-set_same, get_or-set_other, get_or_default, get_or-replicate, length-replicate}
-use Rattle.std.proofs.lemmas.Bool.{cases_eq, lt-ltb, le-ltb}
+use Rattle.std.proofs.Common.{◌≡◌, ℕ, zero, suc, ◌+◌, ◌*◌, ◌/◌, ◌<◌, ◌≤◌, List, [], ◌∷◌, length, get_or, set, replicate, Bool, true, false, cond, ltb, Ok, Err, Result, sym, refl, ap, ◌∙◌, inl, inr, add-zero, zero-add, arith, length-set}
+use Rattle.std.proofs.lemmas.List.{ext_get_or, get_or-set_same, get_or-set_other}
+use Rattle.std.proofs.lemmas.Bool.{cases_eq}
+use Rattle.std.proofs.lemmas.Bool.Decides.{nat_tests}
+use Rattle.arrayvec.specs.ArrayVec.{with_items}
+use Rattle.arrayvec.proofs.ArrayVecLemmas.{items-with_items}
 use Rattle.items.specs.declared.Item.{Item}
-use Rattle.items.specs.declared.Refusal.TheVariants.{NotThere}
+use Rattle.items.specs.declared.Refusal.TheVariants.{NothingToTake, NotThere}
 use Rattle.edges.specs.declared.fault.Fault.{Fault}
 use Rattle.edges.specs.declared.fault.Fault.TheVariants.{Refused, ShortMemory}
 use Rattle.edges.specs.declared.head.Head.{Head}
 use Rattle.edges.specs.declared.state.Edges.{Edges}
-use Rattle.edges.specs.Queues.{on, there, asked}
-use Rattle.edges.specs.Held.{item_at, queue_of, queues_from, edges_of, nobody}
-use Rattle.edges.proofs.Slots.{items_same, items_none, items_length}
+use Rattle.edges.specs.Queues.{Queues, on, there, asked, counted, first_on, peeked, taken, popped}
+use Rattle.edges.specs.Held.{head_of, IsHead, item_at, queue_of, queues_from, edges_of, nobody}
+use Rattle.edges.proofs.Slots.{items_same, items_none, items_cons, items_length}
 
-queues_length : (ws : List ℕ) (hs : List Head) (e n : ℕ) → length (queues_from ws hs e n) ≡ n
+queues_length : (ws : List ℕ) (e : ℕ) (hs : List Head) → length (queues_from ws e hs) ≡ length hs
 unfolding queues_from
-queues_length ws hs e zero = refl
-queues_length ws hs e (suc n) = ap suc (queues_length ws hs (suc e) n)
+queues_length ws e [] = refl
+queues_length ws e (h ∷ hs) = ap suc (queues_length ws (suc e) hs)
 
-queues_from_lem : (ws : List ℕ) (hs : List Head) (a n e : ℕ) → e < n → get_or (queues_from ws hs a n) e [] ≡ queue_of ws (a + e) (get_or hs (a + e) nobody)
+queues_from_lem : (ws : List ℕ) (a : ℕ) (hs : List Head) (e : ℕ) → e < length hs → get_or (queues_from ws a hs) e [] ≡ queue_of ws (a + e) (get_or hs e nobody)
 unfolding queues_from
-queues_from_lem ws hs a zero e h = absurd (omega arith)
-queues_from_lem ws hs a (suc n) zero h = rw add-zero refl
-queues_from_lem ws hs a (suc n) (suc e) h =
-    let s : a + suc e ≡ suc a + e = omega arith in rw s (queues_from_lem ws hs (suc a) n e (omega arith))
+queues_from_lem ws a [] e h = absurd (omega arith)
+queues_from_lem ws a (g ∷ hs) zero h = rw add-zero refl
+queues_from_lem ws a (g ∷ hs) (suc e) h =
+    let s : a + suc e ≡ suc a + e = omega arith in rw s (queues_from_lem ws (suc a) hs e (omega arith))
 
 -- what stands at the place of edge e is what it holds
-pub queues_at : (ws : List ℕ) (hs : List Head) (n e : ℕ) → e < n → get_or (queues_from ws hs 0 n) e [] ≡ queue_of ws e (get_or hs e nobody)
-queues_at ws hs n e h = rw zero-add at (queues_from_lem ws hs 0 n e h)
+pub queues_at : (ws : List ℕ) (hs : List Head) (e : ℕ) → e < length hs → get_or (queues_from ws 0 hs) e [] ≡ queue_of ws e (get_or hs e nobody)
+queues_at ws hs e h = rw zero-add at (queues_from_lem ws 0 hs e h)
 
 -- where all edges but e hold what they held
-pub queues_set : (ws vs : List ℕ) (hs gs : List Head) (n e : ℕ) (is : List Item) → e < n → queue_of vs e (get_or gs e nobody) ≡ is →
-    ((d : ℕ) → d < n → (d ≡ e → ⊥) → queue_of vs d (get_or gs d nobody) ≡ queue_of ws d (get_or hs d nobody)) →
-    queues_from vs gs 0 n ≡ set (queues_from ws hs 0 n) e is
-queues_set ws vs hs gs n e is lt here others =
-    let l : length (queues_from vs gs 0 n) ≡ n = queues_length vs gs 0 n in
-    let k : length (queues_from ws hs 0 n) ≡ n = queues_length ws hs 0 n in
-    ext_get_or [] _ _ (simp (length-set) (l ∙ sym k))
+pub queues_set : (ws vs : List ℕ) (hs gs : List Head) (e : ℕ) (is : List Item) → length gs ≡ length hs → e < length hs →
+    queue_of vs e (get_or gs e nobody) ≡ is →
+    ((d : ℕ) → d < length hs → (d ≡ e → ⊥) → queue_of vs d (get_or gs d nobody) ≡ queue_of ws d (get_or hs d nobody)) →
+    queues_from vs 0 gs ≡ set (queues_from ws 0 hs) e is
+queues_set ws vs hs gs e is many lt here others =
+    let l : length (queues_from vs 0 gs) ≡ length gs = queues_length vs 0 gs in
+    let k : length (queues_from ws 0 hs) ≡ length hs = queues_length ws 0 hs in
+    ext_get_or [] _ _ (simp (length-set) (l ∙ many ∙ sym k))
     (λ d h.
-    queues_at vs gs n d (omega arith)
+    queues_at vs gs d (omega arith)
     ∙ elim (cases_eq d e) [
-      | inl same ↦ rw same (here ∙ sym (get_or-set_same (queues_from ws hs 0 n) e is [] (omega arith)))
+      | inl same ↦ rw same (here ∙ sym (get_or-set_same (queues_from ws 0 hs) e is [] (omega arith)))
       | inr ne ↦ others d (omega arith) ne
-          ∙ sym (get_or-set_other (queues_from ws hs 0 n) e d is [] ne ∙ queues_at ws hs n d (omega arith))
+          ∙ sym (get_or-set_other (queues_from ws 0 hs) e d is [] ne ∙ queues_at ws hs d (omega arith))
     ])
 
 -- an edge whose slots were not touched; slot j is one of edge j / 516
@@ -50,61 +54,64 @@ apart ws vs e d h ne H =
     items_same vs ws (516 * d + h.start) (516 * d + h.start) h.len
     (λ a b l u s. let eq : a ≡ b = omega arith in H a (λ at. omega arith) ∙ ap (item_at ws) eq)
 
--- where only the slots and the head of edge e were written
-pub edge_set : (ws vs : List ℕ) (hs : List Head) (n e : ℕ) (h : Head) (is : List Item) → e < n → e < length hs → queue_of vs e h ≡ is →
-    ((j : ℕ) → (j / 516 ≡ e → ⊥) → item_at vs j ≡ item_at ws j) → queues_from vs (set hs e h) 0 n ≡ set (queues_from ws hs 0 n) e is
-edge_set ws vs hs n e h is lt le here others =
-    queues_set ws vs hs (set hs e h) n e is lt (rw (get_or-set_same hs e h nobody le) here)
-    (λ d l ne. rw (get_or-set_other hs e d h nobody ne) (apart ws vs e d (get_or hs d nobody) ne others))
+-- where only the slots and the head of edge e were written, the head in the slice gs of the heads
+pub edge_set : (ws vs : List ℕ) (q : Edges) (gs : List Head) (e : ℕ) (h : Head) (is : List Item) → gs ≡ q.heads.items →
+    e < length q.heads.items → queue_of vs e h ≡ is → ((j : ℕ) → (j / 516 ≡ e → ⊥) → item_at vs j ≡ item_at ws j) →
+    queues_from vs 0 (with_items q.heads (set gs e h)).items ≡ set (edges_of ws q) e is
+edge_set ws vs q gs e h is same lt here others =
+    let hs : List Head = q.heads.items in
+    rw (same, items-with_items q.heads (set hs e h) (simp length-set))
+    (queues_set ws vs hs (set hs e h) e is (simp length-set) lt (rw (get_or-set_same hs e h nobody lt) here)
+    (λ d l ne. rw (get_or-set_other hs e d h nobody ne) (apart ws vs e d (get_or hs d nobody) ne others)))
 
-pub count_is : (ws : List ℕ) (q : Edges) → length (edges_of ws q) ≡ q.count
-count_is ws q = queues_length ws q.heads 0 q.count
+pub count_is : (ws : List ℕ) (q : Edges) → length (edges_of ws q) ≡ length q.heads.items
+count_is ws q = queues_length ws 0 q.heads.items
 
 -- a call on an edge that is there, and on one that isn't
-pub there_is : {A : Type 0} (ws : List ℕ) (q : Edges) (e : ℕ) (x : Result A Fault) → e < q.count → there (edges_of ws q) e x ≡ x
-there_is ws q e x h =
-    let l : length (edges_of ws q) ≡ q.count = count_is ws q in
-    rw (lt-ltb e (length (edges_of ws q)) (omega arith)) refl
-
-pub there_not : {A : Type 0} (ws : List ℕ) (q : Edges) (e : ℕ) (x : Result A Fault) → q.count ≤ e → there (edges_of ws q) e x ≡ Err (Refused NotThere)
-there_not ws q e x h =
-    let l : length (edges_of ws q) ≡ q.count = count_is ws q in
-    rw (le-ltb e (length (edges_of ws q)) (omega arith)) refl
+pub there_is : {A : Type 0} (ws : List ℕ) (q : Edges) (e : ℕ) (x : Result A Fault) → e < length q.heads.items → there (edges_of ws q) e x ≡ x
+there_is ws q e x h = grind (arith, nat_tests, count_is)
 
 -- the same where words are lent
-pub asked_is : {A : Type 0} (ws : List ℕ) (q : Edges) (e : ℕ) (x : Result A Fault) → (2064 * q.count ≤ length ws) × (e < q.count) →
-    asked (length ws) (edges_of ws q) e x ≡ x
-asked_is ws q e x h =
-    let l : length (edges_of ws q) ≡ q.count = count_is ws q in
-    rw (le-ltb (length ws) (2064 * length (edges_of ws q)) (omega (arith, h.0))) (there_is ws q e x h.1)
-
-pub asked_not : {A : Type 0} (ws : List ℕ) (q : Edges) (e : ℕ) (x : Result A Fault) (f : Fault) →
-    ((length ws < 2064 * q.count) × (f ≡ ShortMemory)) ⊎ ((2064 * q.count ≤ length ws) × (q.count ≤ e) × (f ≡ Refused NotThere)) →
-    asked (length ws) (edges_of ws q) e x ≡ Err f
-asked_not ws q e x f (inl h) =
-    let l : length (edges_of ws q) ≡ q.count = count_is ws q in
-    rw (lt-ltb (length ws) (2064 * length (edges_of ws q)) (omega (arith, h.0)), h.1) refl
-asked_not ws q e x f (inr h) =
-    let l : length (edges_of ws q) ≡ q.count = count_is ws q in
-    rw (le-ltb (length ws) (2064 * length (edges_of ws q)) (omega (arith, h.0)), h.2) (there_not ws q e x h.1)
+pub asked_is : {A : Type 0} (ws : List ℕ) (q : Edges) (e : ℕ) (x : Result A Fault) → 2064 * length q.heads.items ≤ length ws →
+    e < length q.heads.items → asked (length ws) (edges_of ws q) e x ≡ x
+asked_is ws q e x enough h = grind (arith, nat_tests, count_is)
 
 -- edges whose heads count nothing
-pub queues_none : (ws : List ℕ) (h : Head) (m n : ℕ) → h.len ≡ 0 → n ≤ m → queues_from ws (replicate m h) 0 n ≡ replicate n []
-queues_none ws h m n none le =
-    let l : length (queues_from ws (replicate m h) 0 n) ≡ n = queues_length ws (replicate m h) 0 n in
-    ext_get_or [] _ _ (l ∙ sym (length-replicate n []))
-    (λ d lt.
-    queues_at ws (replicate m h) n d (omega arith)
-    ∙ rw (get_or-replicate m d h nobody (omega arith)) (items_none ws (516 * d + h.start) h.len none)
-    ∙ sym (get_or-replicate n d [] [] (omega arith)))
+pub queues_none : (ws : List ℕ) (e : ℕ) (h : Head) (n : ℕ) → h.len ≡ 0 → queues_from ws e (replicate n h) ≡ replicate n []
+unfolding queues_from
+queues_none ws e h zero none = refl
+queues_none ws e h (suc n) none = rw (items_none ws (516 * e + h.start) h.len none) (ap (λ (qs : List (List Item)). [] ∷ qs) (queues_none ws (suc e) h n none))
 
--- what edge e holds, by the head that was read at some default
-pub held_at : (ws : List ℕ) (q : Edges) (e : ℕ) (d : Head) → e < q.count → e < length q.heads → on (edges_of ws q) e ≡ queue_of ws e (get_or q.heads e d)
-held_at ws q e d lt le = queues_at ws q.heads q.count e lt ∙ ap (queue_of ws e) (get_or_default q.heads e nobody d le)
+-- what edge e holds, by its head
+pub held_at : (ws : List ℕ) (q : Edges) (e : ℕ) (h : Head) → IsHead q e h → on (edges_of ws q) e ≡ queue_of ws e h
+held_at ws q e h at = queues_at ws q.heads.items e at.there ∙ ap (queue_of ws e) at.read
 
-pub length_at : (ws : List ℕ) (q : Edges) (e : ℕ) (d : Head) → e < q.count → e < length q.heads → length (on (edges_of ws q) e) ≡ (get_or q.heads e d).len
-length_at ws q e d lt le = ap length (held_at ws q e d lt le) ∙ items_length ws (516 * e + (get_or q.heads e d).start) (get_or q.heads e d).len
+pub length_at : (ws : List ℕ) (q : Edges) (e : ℕ) (h : Head) → IsHead q e h → length (on (edges_of ws q) e) ≡ h.len
+length_at ws q e h at = ap length (held_at ws q e h at) ∙ items_length ws (516 * e + h.start) h.len
 
--- the slot behind the items of edge e, by the head that was read
-abbrev pub behind : Edges → ℕ → Head → ℕ
-behind q e d = 516 * e + (get_or q.heads e d).start + (get_or q.heads e d).len
+-- what is counted and seen there
+pub counted_is : (ws : List ℕ) (q : Edges) (e : ℕ) → e < length q.heads.items → counted (edges_of ws q) e ≡ Ok (head_of q e).len
+counted_is ws q e lt = grind (arith, there_is, queues_at, items_length)
+
+pub peeked_none : (ws : List ℕ) (q : Edges) (e : ℕ) → 2064 * length q.heads.items ≤ length ws → e < length q.heads.items →
+    (head_of q e).len ≡ 0 → peeked (length ws) (edges_of ws q) e ≡ Err (Refused NothingToTake)
+peeked_none ws q e enough lt none = grind (arith, asked_is, queues_at, items_none)
+
+pub peeked_first : (ws : List ℕ) (q : Edges) (e : ℕ) → 2064 * length q.heads.items ≤ length ws → e < length q.heads.items →
+    0 < (head_of q e).len → peeked (length ws) (edges_of ws q) e ≡ Ok (item_at ws (516 * e + (head_of q e).start))
+peeked_first ws q e enough lt some = grind (arith, asked_is, queues_at, items_cons)
+
+-- what can't be seen can't be taken
+pub popped_not : (lent : ℕ) (qs : Queues) (e : ℕ) (f : Fault) → peeked lent qs e ≡ Err f → popped lent qs e ≡ Err f
+popped_not lent qs e f = go (ltb lent (2064 * length qs)) (ltb e (length qs)) (on qs e)
+  where
+    go : (b c : Bool) (is : List Item) → cond b (Err ShortMemory) (cond c (first_on is) (Err (Refused NotThere))) ≡ Err f →
+        cond b (Err ShortMemory) (cond c (taken qs e is) (Err (Refused NotThere))) ≡ Err f
+    go true c is w = cc
+    go false false is w = cc
+    go false true [] w = cc
+    go false true (y ∷ is) w = absurd cc
+
+-- the slot behind the items of edge e
+abbrev pub behind : ℕ → Head → ℕ
+behind e h = 516 * e + h.start + h.len

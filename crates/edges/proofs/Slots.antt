@@ -1,8 +1,12 @@
 -- Items in slots of four words.
-use Rattle.std.proofs.Common.{◌≡◌, ℕ, zero, suc, ◌+◌, ◌-◌, ◌*◌, ◌<◌, ◌≤◌, List, [], ◌∷◌, ◌++◌, length, get_or, set, sym, refl, ap, ◌∙◌, add-zero, zero-add, arith, length-set, get_or-set_other, get_or-set_same}
+use Rattle.std.proofs.Common.{rules, ◌≡◌, ℕ, zero, suc, ◌+◌, ◌-◌, ◌*◌, ◌<◌, ◌≤◌, List, [], ◌∷◌, ◌++◌, length, get_or, sym, refl, ap, ◌∙◌, inl, inr, take, add-zero, zero-add, arith, set, length-take, length-drop, drop, Option, Some, None, unwrap_or}
+use borrow.Rule.Slice.PartMut.{put_mid}
+use Rattle.std.proofs.lemmas.List.{places, get_or-take, get_or-drop}
+use Rattle.std.proofs.lemmas.Bool.{cases_lt}
+use Rattle.std.proofs.lemmas.Grind.{common_steps}
 use Rattle.items.specs.declared.Item.{Item}
 use Rattle.items.specs.declared.Item.TheVariants.{Record, Watermark, Barrier}
-use Rattle.items.specs.Words.{words_of, decoded}
+use Rattle.items.specs.Words.{words_of, decoded, first_in}
 use Rattle.edges.specs.Held.{or_stop, item_at, items_from}
 
 -- an item is its four words
@@ -21,38 +25,54 @@ put4 ws p t a b d = set (set (set (set ws p t) (p + 1) a) (p + 2) b) (p + 3) d
 -- four words were written: the slot that they are in, and the others
 pub put4_here : (ws : List ℕ) (k t a b d : ℕ) → 4 * k + 3 < length ws → item_at (put4 ws (4 * k) t a b d) k ≡ or_stop (decoded t a b d)
 put4_here ws k t a b d h =
-    let s0 : List ℕ = set ws (4 * k) t in
-    let s1 : List ℕ = set s0 (4 * k + 1) a in
-    let s2 : List ℕ = set s1 (4 * k + 2) b in
-    let l1 : 4 * k + 1 < length s0 = simp length-set (omega arith) in
-    let l2 : 4 * k + 2 < length s1 = simp length-set (omega arith) in
-    let l3 : 4 * k + 3 < length s2 = simp length-set (omega arith) in
-    let f : get_or (set s2 (4 * k + 3) d) (4 * k) 0 ≡ t =
-    get_or-set_other s2 (4 * k + 3) (4 * k) d 0 (omega arith) ∙ get_or-set_other s1 (4 * k + 2) (4 * k) b 0 (omega arith)
-    ∙ get_or-set_other s0 (4 * k + 1) (4 * k) a 0 (omega arith) ∙ get_or-set_same ws (4 * k) t 0 (omega arith) in
-    let g : get_or (set s2 (4 * k + 3) d) (4 * k + 1) 0 ≡ a =
-    get_or-set_other s2 (4 * k + 3) (4 * k + 1) d 0 (omega arith) ∙ get_or-set_other s1 (4 * k + 2) (4 * k + 1) b 0 (omega arith)
-    ∙ get_or-set_same s0 (4 * k + 1) a 0 l1 in
-    let i : get_or (set s2 (4 * k + 3) d) (4 * k + 2) 0 ≡ b =
-    get_or-set_other s2 (4 * k + 3) (4 * k + 2) d 0 (omega arith) ∙ get_or-set_same s1 (4 * k + 2) b 0 l2 in
-    let j : get_or (set s2 (4 * k + 3) d) (4 * k + 3) 0 ≡ d = get_or-set_same s2 (4 * k + 3) d 0 l3 in
+    let f : get_or (put4 ws (4 * k) t a b d) (4 * k) 0 ≡ t = grind (arith, common_steps) in
+    let g : get_or (put4 ws (4 * k) t a b d) (4 * k + 1) 0 ≡ a = grind (arith, common_steps) in
+    let i : get_or (put4 ws (4 * k) t a b d) (4 * k + 2) 0 ≡ b = grind (arith, common_steps) in
+    let j : get_or (put4 ws (4 * k) t a b d) (4 * k + 3) 0 ≡ d = grind (arith, common_steps) in
     rw (f, g, i, j) refl
 
 pub put4_other : (ws : List ℕ) (k j t a b d : ℕ) → (j ≡ k → ⊥) → item_at (put4 ws (4 * k) t a b d) j ≡ item_at ws j
 put4_other ws k j t a b d ne =
-    let s0 : List ℕ = set ws (4 * k) t in
-    let s1 : List ℕ = set s0 (4 * k + 1) a in
-    let s2 : List ℕ = set s1 (4 * k + 2) b in
-    item_same (set s2 (4 * k + 3) d) ws j j (λ p q l u s.
-    let same : p ≡ q = omega arith in
-    get_or-set_other s2 (4 * k + 3) p d 0 (omega arith) ∙ get_or-set_other s1 (4 * k + 2) p b 0 (omega arith)
-    ∙ get_or-set_other s0 (4 * k + 1) p a 0 (omega arith) ∙ get_or-set_other ws (4 * k) p t 0 (omega arith) ∙ ap (λ (x : ℕ). get_or ws x 0) same)
+    item_same (put4 ws (4 * k) t a b d) ws j j (λ p q l u s. grind (arith, common_steps))
 
 -- the words of an item stand for it
 pub words_tell_lem : (i : Item) → or_stop (decoded (get_or (words_of i) 0 0) (get_or (words_of i) 1 0) (get_or (words_of i) 2 0) (get_or (words_of i) 3 0)) ≡ i
 words_tell_lem (Record r) = refl
 words_tell_lem (Watermark t) = refl
 words_tell_lem (Barrier n) = refl
+
+pub ruleset put = (put4_here, put4_other, words_tell_lem)
+
+-- a slot that is not in the part that was written
+pub slot_apart : (s m : ℕ) (ws ys : List ℕ) (j : ℕ) → 4 * s ≤ length ws → length ys ≡ 4 * m → (s ≤ j → j < s + m → ⊥) →
+    item_at (put_mid (4 * s) (4 * m) ws ys) j ≡ item_at ws j
+slot_apart s m ws ys j fits len apart =
+    item_same (put_mid (4 * s) (4 * m) ws ys) ws j j (λ p q l u t.
+    let same : p ≡ q = omega arith in
+    elim (cases_lt p (4 * s)) [
+      | inl before ↦ rw same (search (rules, places))
+      | inr after ↦ let outside : 4 * s + 4 * m ≤ q = omega arith in rw same (search (rules, places))
+    ])
+
+-- the item in four words, and in a slot by its four words
+first_of_four : (vs : List ℕ) → 4 ≤ length vs → unwrap_or (first_in vs) (Barrier 0) ≡ or_stop (decoded (get_or vs 0 0) (get_or vs 1 0) (get_or vs 2 0) (get_or vs 3 0))
+first_of_four [] h = absurd (omega arith)
+first_of_four (a ∷ []) h = absurd (omega arith)
+first_of_four (a ∷ b ∷ []) h = absurd (omega arith)
+first_of_four (a ∷ b ∷ c ∷ []) h = absurd (omega arith)
+first_of_four (a ∷ b ∷ c ∷ d ∷ vs) h = unwrapped (decoded a b c d)
+  where
+    unwrapped : (o : Option Item) → unwrap_or o (Barrier 0) ≡ or_stop o
+    unwrapped (Some i) = refl
+    unwrapped None = refl
+
+pub loaded : (ws : List ℕ) (n k : ℕ) → n ≡ 4 → 4 * k + 3 < length ws → unwrap_or (first_in (take n (drop (4 * k) ws))) (Barrier 0) ≡ item_at ws k
+loaded ws n k four h =
+    let vs : List ℕ = take 4 (drop (4 * k) ws) in
+    let at : (n m : ℕ) → n < 4 → 4 * k + n ≡ m → get_or vs n 0 ≡ get_or ws m 0 =
+    λ n m lt is. get_or-take 4 (drop (4 * k) ws) n 0 lt ∙ get_or-drop (4 * k) ws n 0 ∙ ap (λ (x : ℕ). get_or ws x 0) is in
+    rw four (first_of_four vs (simp (length-take, length-drop) (omega arith))
+    ∙ rw (at 0 (4 * k) (omega arith) (omega arith), at 1 _ (omega arith) refl, at 2 _ (omega arith) refl, at 3 _ (omega arith) refl) refl)
 
 -- two ranges hold the same items where each slot of the one is as that of the other
 pub items_same : (ws vs : List ℕ) (k m n : ℕ) →
@@ -77,6 +97,10 @@ items_cons ws k (suc n) h =
     let e : suc n - 1 ≡ n = omega arith in
     let f : k + 1 ≡ suc k = omega arith in
     rw (e, f) refl
+
+pub items_one : (ws : List ℕ) (k : ℕ) (x : Item) → item_at ws k ≡ x → items_from ws k 1 ≡ x ∷ []
+unfolding items_from
+items_one ws k x e = rw e refl
 
 -- the first n slots and m behind them
 pub items_append : (ws : List ℕ) (k n m : ℕ) → items_from ws k (n + m) ≡ items_from ws k n ++ items_from ws (k + n) m
@@ -104,3 +128,5 @@ rest_moved ws vs e k n pos H =
     ∙ ap (λ is. item_at ws (516 * e + k) ∷ is) (items_same ws vs (516 * e + (k + 1)) (516 * e + 0) (n - 1)
     (λ a b l u s. item_same ws vs a b (λ p q pl pu ps.
     let at : p ≡ 4 * (k + 1) + q = omega arith in rw at (sym (H q (omega arith) (omega arith))))))
+
+pub ruleset rest = (rest_on, items_none)

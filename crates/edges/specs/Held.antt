@@ -1,5 +1,6 @@
 -- What lent words hold.
-use Rattle.std.specs.Prelude.{ℕ, zero, suc, ◌+◌, ◌-◌, ◌*◌, List, [], ◌∷◌, get_or, take, drop, Some, None, Option, slice_index, slice_index_or}
+use Rattle.std.specs.Prelude.{◌≡◌, ℕ, zero, suc, ◌+◌, ◌-◌, ◌*◌, ◌<◌, List, [], ◌∷◌, length, take, drop, Some, None, Option, slice_index, slice_index_or}
+use Rattle.std.specs.declared.ops.Range.{Range}
 use Rattle.std.proofs.Common.{lit<, lit≤}
 use Rattle.items.specs.declared.Item.{Item}
 use Rattle.items.specs.declared.Item.TheVariants.{Barrier}
@@ -25,24 +26,36 @@ items_from ws k (suc n) = item_at ws k ∷ items_from ws (suc k) n
 abbrev pub nobody : Head
 nobody = record { start = 0; len = 0; fits = (lit< tt, lit≤ tt) }
 
+-- where the items of edge e stand
+abbrev pub head_of : Edges → ℕ → Head
+head_of q e = slice_index_or q.heads.items e nobody
+
+-- edge e is there, and h says where its items stand
+pub record IsHead (q : Edges) (e : ℕ) (h : Head) : Type 0 where
+  pub there : e < length q.heads.items
+  pub read : head_of q e ≡ h
+
 -- what edge e holds, by where its items stand
 abbrev pub queue_of : List ℕ → ℕ → Head → List Item
 queue_of ws e h = items_from ws (516 * e + h.start) h.len
 
--- what the n edges from e on hold
-unfoldable pub queues_from : List ℕ → List Head → ℕ → ℕ → Queues
-queues_from ws hs e zero = []
-queues_from ws hs e (suc n) = queue_of ws e (slice_index_or hs e nobody) ∷ queues_from ws hs (suc e) n
+-- what the edges from e on hold, by their heads
+unfoldable pub queues_from : List ℕ → ℕ → List Head → Queues
+queues_from ws e [] = []
+queues_from ws e (h ∷ hs) = queue_of ws e h ∷ queues_from ws (suc e) hs
 
 abbrev pub edges_of : List ℕ → Edges → Queues
-edges_of ws q = queues_from ws q.heads 0 q.count
+edges_of ws q = queues_from ws 0 q.heads.items
 
 -- the free part of edge e: where it begins, how many words it has, and these words
 abbrev pub free_from : Edges → ℕ → ℕ
-free_from q e = 4 * (516 * e + (get_or q.heads e nobody).start + (get_or q.heads e nobody).len)
+free_from q e = 4 * (516 * e + (head_of q e).start + (head_of q e).len)
 
 abbrev pub free_words : Edges → ℕ → ℕ
-free_words q e = 4 * (256 - (get_or q.heads e nobody).len)
+free_words q e = 4 * (256 - (head_of q e).len)
+
+abbrev pub free_range : Edges → ℕ → Range ℕ
+free_range q e = record { start = free_from q e; end = free_from q e + free_words q e }
 
 abbrev pub free_of : List ℕ → Edges → ℕ → List ℕ
 free_of ws q e = take (free_words q e) (drop (free_from q e) ws)

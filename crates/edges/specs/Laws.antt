@@ -65,5 +65,5 @@ FirstInFirstOut = (lent : ℕ) (qs : Queues) (ms : List Move) (d : ℕ) →
 
 -- Writing into the free part of an edge changes no edge, and what was written stands there.
 abbrev pub FreeIsFree : Type 0
-FreeIsFree = (q : Edges) (ws ys : List ℕ) (e : ℕ) → e < q.count → 2064 * q.count ≤ length ws → length ys ≡ free_words q e →
+FreeIsFree = (q : Edges) (ws ys : List ℕ) (e : ℕ) → e < length q.heads.items → 2064 * length q.heads.items ≤ length ws → length ys ≡ free_words q e →
     (edges_of (put_mid (free_from q e) (free_words q e) ws ys) q ≡ edges_of ws q) × (free_of (put_mid (free_from q e) (free_words q e) ws ys) q e ≡ ys)

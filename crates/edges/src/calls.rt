@@ -1,32 +1,34 @@
-ghost use Rattle.std.specs.Prelude.{◌≡◌, ℕ, ◌+◌, ◌*◌, ◌/◌, ◌<◌, ◌≤◌, ◌⊎◌, List, [], ◌∷◌, length, replicate, IfOk, Ok, Err, MatchBool, MatchOption, ◌≢◌};
+ghost use Rattle.std.specs.Prelude.{◌≡◌, ℕ, ◌+◌, ◌*◌, ◌/◌, ◌<◌, ◌≤◌, ◌⊎◌, List, [], ◌∷◌, length, replicate, IfOk, Ok, Err, MatchOption, MatchResult, ◌≢◌};
 ghost use Rattle.items.specs.declared.Refusal.TheVariants.{NotThere};
-ghost use Rattle.edges.specs.Held.{item_at, queue_of, edges_of, free_from, free_words, free_of, items_from};
+ghost use Rattle.edges.specs.Held.{IsHead, item_at, queue_of, edges_of, free_range, free_of, items_from};
 ghost use Rattle.edges.specs.declared.fault.Fault.TheVariants.{Refused, ShortMemory};
 ghost use Rattle.edges.specs.Queues.{counted, cleared, peeked, pushed, popped, asked, taken_up};
 
 use crate::head::Head;
 use crate::layout::{CAPACITY, ITEM, MOST, SLOTS, WORDS};
 use crate::{Edges, Fault};
+use arrayvec::ArrayVec;
 use items::{Item, Refusal};
+use std::ops::Range;
 
 // The item in a slot.
+#[tactic(auto, using(crate::proofs::Slots::loaded))]
 fn item_at(words: &[u32], slot: usize) -> Item
     requires { 4 * slot + 3 < length words.now }
     ensures { result ≡ item_at words.now slot }
 {
     let at = ITEM * slot;
-    match Item::decode([words[at], words[at + 1], words[at + 2], words[at + 3]]) {
-        Some(item) => item,
-        None => Item::Barrier(0),
-    }
+    Item::load(&words[at..at + ITEM]).unwrap_or(Item::Barrier(0))
 }
 
 // Puts an item into a slot; the other slots stay.
+#[tactic(auto, using(crate::proofs::Slots::put))]
 fn put_at(words: &mut [u32], slot: usize, item: Item)
     requires { 4 * slot + 3 < length words.old }
     ensures here { item_at words.new slot ≡ item }
     ensures others { (j : ℕ) → (j ≢ slot) → item_at words.new j ≡ item_at words.old j }
 {
+    // Copied as one array, the four words take a queue twice as long.
     let [tag, key, time, amount] = item.encode();
     let at = ITEM * slot;
     words[at] = tag;
@@ -35,16 +37,10 @@ fn put_at(words: &mut [u32], slot: usize, item: Item)
     words[at + 3] = amount;
 }
 
-// Whether there is room for n items more.
-fn has_room(head: Head, n: usize) -> bool
-    ensures { MatchBool result (head.len + n ≤ 256) (256 < head.len + n) }
-{
-    n <= CAPACITY - head.len
-}
-
 // Where the items of edge e stand once the first is taken; the slots of the other edges stay. The items are moved down
 // only when the lower half is used up, so once in 256 calls at most; and an edge that gets empty starts at slot 0 again,
 // so that the words in use stay few.
+#[tactic(auto, using(crate::proofs::Slots::rest))]
 fn advance(words: &mut [u32], e: usize, head: Head) -> Head
     requires { (2064 * e + 2064 ≤ length words.old) × (0 < head.len) }
     ensures here { queue_of words.old e head ≡ item_at words.old (516 * e + head.start) ∷ queue_of words.new e result }
@@ -52,7 +48,7 @@ fn advance(words: &mut [u32], e: usize, head: Head) -> Head
 {
     let len = head.len - 1;
     if len == 0 {
-        return Head { start: 0, len };
+        return Head::default();
     }
     let start = head.start + 1;
     if start < CAPACITY {
@@ -64,6 +60,7 @@ fn advance(words: &mut [u32], e: usize, head: Head) -> Head
     Head { start: 0, len }
 }
 
+#[tactic(auto, using(crate::proofs::Added::come_to))]
 impl Edges {
     // So many empty edges, if they are at most 64.
     pub fn new(count: usize) -> Option<Edges>
@@ -72,56 +69,68 @@ impl Edges {
         if count > MOST {
             return None;
         }
-        Some(Edges {
-            count,
-            heads: [Head { start: 0, len: 0 }; MOST],
-        })
+        let mut heads = ArrayVec::from([Head::default(); MOST]);
+        heads.truncate(count);
+        Some(Edges { heads })
     }
 
     // How many words are to be lent.
     pub fn words(&self) -> usize
         ensures { (ws : List ℕ) → result ≡ 2064 * length (edges_of ws self.now) }
     {
-        WORDS * self.count
+        WORDS * self.heads.len()
     }
 
-    // Whether enough words are lent, and edge e is there.
-    fn ask(&self, lent: usize, e: usize) -> Result<(), Fault>
-        ensures { elim result [
-          | Ok _ ↦ (2064 * self.now.count ≤ lent) × (e < self.now.count)
-          | Err f ↦ ((lent < 2064 * self.now.count) × (f ≡ ShortMemory))
-              ⊎ ((2064 * self.now.count ≤ lent) × (self.now.count ≤ e) × (f ≡ Refused NotThere))
-        ] }
+    // Where the items of edge e stand, if it is there.
+    fn head(&self, e: usize) -> Result<Head, Fault>
+        ensures { MatchResult result (λ h. IsHead self.now e h) (λ f. (length self.now.heads.items ≤ e) × (f ≡ Refused NotThere)) }
     {
-        if lent < WORDS * self.count {
+        self.heads
+            .get(e)
+            .copied()
+            .ok_or(Fault::Refused(Refusal::NotThere))
+    }
+
+    // The same, where enough words must be lent.
+    fn ask(&self, lent: usize, e: usize) -> Result<Head, Fault>
+        ensures { MatchResult result
+            (λ h. (2064 * length self.now.heads.items ≤ lent) × IsHead self.now e h)
+            (λ f. ((lent < 2064 * length self.now.heads.items) × (f ≡ ShortMemory))
+            ⊎ ((2064 * length self.now.heads.items ≤ lent) × (length self.now.heads.items ≤ e) × (f ≡ Refused NotThere))) }
+    {
+        if lent < WORDS * self.heads.len() {
             return Err(Fault::ShortMemory);
         }
-        if e >= self.count {
-            return Err(Fault::Refused(Refusal::NotThere));
-        }
-        Ok(())
+        self.head(e)
     }
 
     // How many items are on edge e.
     pub fn len(&self, e: usize) -> Result<usize, Fault>
         ensures { (ws : List ℕ) → result ≡ counted (edges_of ws self.now) e }
     {
-        if e >= self.count {
-            return Err(Fault::Refused(Refusal::NotThere));
+        Ok(self.head(e)?.len)
+    }
+
+    // The first item of edge e, and where the items of that edge stand.
+    fn first(&self, words: &[u32], e: usize) -> Result<(Head, Item), Fault>
+        ensures { MatchResult result
+            (λ p. (2064 * length self.now.heads.items ≤ length words.now) × IsHead self.now e p.0 × (0 < p.0.len)
+            × (p.1 ≡ item_at words.now (516 * e + p.0.start)))
+            (λ f. peeked (length words.now) (edges_of words.now self.now) e ≡ Err f) }
+    {
+        let head = self.ask(words.len(), e)?;
+        if head.len == 0 {
+            return Err(Fault::Refused(Refusal::NothingToTake));
         }
-        Ok(self.heads[e].len)
+        Ok((head, item_at(words, SLOTS * e + head.start)))
     }
 
     // The first item of edge e, which stays.
     pub fn peek(&self, words: &[u32], e: usize) -> Result<Item, Fault>
         ensures { result ≡ peeked (length words.now) (edges_of words.now self.now) e }
     {
-        self.ask(words.len(), e)?;
-        let head = self.heads[e];
-        if head.len == 0 {
-            return Err(Fault::Refused(Refusal::NothingToTake));
-        }
-        Ok(item_at(words, SLOTS * e + head.start))
+        let (_, item) = self.first(words, e)?;
+        Ok(item)
     }
 
     // One item more at the end of edge e.
@@ -131,16 +140,10 @@ impl Edges {
           | Err f ↦ (pushed (length words.old) (edges_of words.old self.old) e item ≡ Err f) × (words.new ≡ words.old) × (self.new ≡ self.old)
         ] }
     {
-        self.ask(words.len(), e)?;
-        let head = self.heads[e];
-        if !has_room(head, 1) {
-            return Err(Fault::Refused(Refusal::NoRoom));
-        }
+        let head = self.ask(words.len(), e)?;
+        let more = head.with_more(1)?;
         put_at(words, SLOTS * e + head.start + head.len, item);
-        self.heads[e] = Head {
-            start: head.start,
-            len: head.len + 1,
-        };
+        self.heads[e] = more;
         Ok(())
     }
 
@@ -151,12 +154,7 @@ impl Edges {
           | Err f ↦ (popped (length words.old) (edges_of words.old self.old) e ≡ Err f) × (words.new ≡ words.old) × (self.new ≡ self.old)
         ] }
     {
-        self.ask(words.len(), e)?;
-        let head = self.heads[e];
-        if head.len == 0 {
-            return Err(Fault::Refused(Refusal::NothingToTake));
-        }
-        let item = item_at(words, SLOTS * e + head.start);
+        let (head, item) = self.first(words, e)?;
         self.heads[e] = advance(words, e, head);
         Ok(item)
     }
@@ -168,23 +166,19 @@ impl Edges {
           | Err f ↦ (cleared (edges_of ws self.old) e ≡ Err f) × (self.new ≡ self.old)
         ] }
     {
-        if e >= self.count {
-            return Err(Fault::Refused(Refusal::NotThere));
-        }
-        self.heads[e] = Head { start: 0, len: 0 };
+        self.head(e)?;
+        self.heads[e] = Head::default();
         Ok(())
     }
 
-    // Where in the lent words the free part of edge e begins and ends: room for all that it can still hold.
-    pub fn free(&self, words: &[u32], e: usize) -> Result<(usize, usize), Fault>
-        ensures place { asked (length words.now) (edges_of words.now self.now) e
-            (Ok (free_from self.now e, free_from self.now e + free_words self.now e)) ≡ result }
-        ensures within { IfOk result (λ p. (p.0 ≤ p.1) × (p.1 ≤ length words.now)) }
+    // Where in the lent words the free part of edge e is: room for all that it can still hold.
+    pub fn free(&self, words: &[u32], e: usize) -> Result<Range<usize>, Fault>
+        ensures place { asked (length words.now) (edges_of words.now self.now) e (Ok (free_range self.now e)) ≡ result }
+        ensures within { IfOk result (λ r. (r.start ≤ r.end) × (r.end ≤ length words.now)) }
     {
-        self.ask(words.len(), e)?;
-        let head = self.heads[e];
+        let head = self.ask(words.len(), e)?;
         let from = ITEM * (SLOTS * e + head.start + head.len);
-        Ok((from, from + ITEM * (CAPACITY - head.len)))
+        Ok(from..from + ITEM * (CAPACITY - head.len))
     }
 
     // Takes up the first n items that were written into the free part of edge e.
@@ -194,15 +188,7 @@ impl Edges {
           | Err f ↦ (taken_up (length words.now) (edges_of words.now self.old) e (items_from (free_of words.now self.old e) 0 n) ≡ Err f) × (self.new ≡ self.old)
         ] }
     {
-        self.ask(words.len(), e)?;
-        let head = self.heads[e];
-        if !has_room(head, n) {
-            return Err(Fault::Refused(Refusal::NoRoom));
-        }
-        self.heads[e] = Head {
-            start: head.start,
-            len: head.len + n,
-        };
+        self.heads[e] = self.ask(words.len(), e)?.with_more(n)?;
         Ok(())
     }
 }

@@ -1,14 +1,10 @@
 // What is proved of the definitions, each named by a contract.
 ghost use Rattle.edges.specs.Laws.{FirstInFirstOut, FreeIsFree};
 
-pub fn first_in_first_out() -> u8
+pub fn first_in_first_out()
     ensures { FirstInFirstOut }
-{
-    0
-}
+{}
 
-pub fn free_is_free() -> u8
+pub fn free_is_free()
     ensures { FreeIsFree }
-{
-    0
-}
+{}

@@ -1,7 +1,7 @@
 // What the lower layers cost, for bench/run: a journal read to its end, and items put on edges and taken again.
 #![tactic(auto)]
 
-use anyhow::anyhow;
+use anyhow::{Context, anyhow};
 use edges::{Edges, Fault};
 use items::{Item, Record};
 use journals::{Reader, Stop};
@@ -97,14 +97,10 @@ fn turns(edges: &mut Edges, words: &mut [u32], n: u32) -> Result<u64, Fault> {
 }
 
 fn queue(rt: &HostRuntime, n: u32) -> anyhow::Result<()> {
-    let Some(mut edges) = Edges::new(EDGES) else {
-        return Err(anyhow!("too many edges"));
-    };
+    let mut edges = Edges::new(EDGES).context("too many edges")?;
     let mut words = vec![in rt.alloc(); 0u32; edges.words()]?;
-    match turns(&mut edges, &mut words, n) {
-        Ok(sum) => println!(rt; "items {n} sum {sum}")?,
-        Err(_) => return Err(anyhow!("an edge refused")),
-    }
+    let sum = turns(&mut edges, &mut words, n).map_err(|_| anyhow!("an edge refused"))?;
+    println!(rt; "items {n} sum {sum}")?;
     Ok(())
 }
 

@@ -1,32 +1,14 @@
-use Rattle.std.proofs.Common.{refl, ◌∙◌, arith}
-use Rattle.std.proofs.lemmas.Result.{err_from_is_err_and}
+use Rattle.std.proofs.Common.{refl, arith}
 use Rattle.edges.specs.Held.{free_of}
 use Rattle.edges.proofs.Slots.{items_length}
-use Rattle.edges.proofs.Numbered.{asked_is, asked_not}
-use Rattle.edges.proofs.Added.{added_is, added_not}
+use Rattle.edges.proofs.Added.{added_is}
 use Rattle.edges.proofs.Lent.{free_items}
 use Rattle.edges.proofs.state.Edges.take_up.Goals as goal
-
-pub returns-in_err-ask : goal.returns-in_err-ask
-returns-in_err-ask c =
-    let p = err_from_is_err_and c.from_residual.result c.from_residual.ensures.1 in
-    rw (p.1, p.2)
-    (asked_not c.args.words.now c.args.self.now c.args.e _ _ c.in_err-ask.ensures, refl)
-
-pub returns-then-not-has_room : goal.returns-then-not-has_room
-returns-then-not-has_room c =
-    let t = c.in_ok-ask.ensures in
-    let many = items_length (free_of c.args.words.now c.args.self.now c.args.e) 0 c.args.n in (
-      asked_is c.args.words.now c.args.self.now c.args.e _ t
-          ∙ added_not c.args.words.now c.args.self.now c.args.e c.index-self-e.result _ t.1 (omega arith) (omega (arith, c.if-not-has_room.ensures)),
-      refl,
-    )
 
 pub returns : goal.returns
 returns c =
     let t = c.in_ok-ask.ensures in
-    asked_is c.args.words.now c.args.self.now c.args.e _ t
-    ∙ added_is c.args.words.now c.args.words.now c.args.self.now c.args.e c.args.n c.index-self-e.result _ _
-    t.1 (omega arith) refl refl (items_length (free_of c.args.words.now c.args.self.now c.args.e) 0 c.args.n)
-    (free_items c.args.words.now c.args.self.now c.args.e c.args.n c.index-self-e.result (omega arith) (omega (arith, c.if-not-has_room.ensures)))
+    added_is c.args.words.now c.args.words.now c.args.self.now c.deref_mut.result.now c.args.e c.args.n _ _ _ c.deref_mut.ensures.value t.0 t.1
+    c.in_ok-self.ensures.1 c.in_ok-self.ensures.2 (items_length (free_of c.args.words.now c.args.self.now c.args.e) 0 c.args.n)
+    (free_items c.args.words.now c.args.self.now c.args.e c.args.n _ t.1 (omega (arith, c.in_ok-self.ensures.0)))
     (λ j apart. refl)
