@@ -56,7 +56,11 @@ impl<T: Copy, const N: usize> Rows<T, N> {
     }
 
     // The lowest line of an item that isn't proper, or `best` where that is lower.
-    pub fn lowest<F: Fn(usize, T) -> bool>(&self, best: Option<usize>, proper: F) -> Option<usize>
+    pub(crate) fn lowest<F: Fn(usize, T) -> bool>(
+        &self,
+        best: Option<usize>,
+        proper: F,
+    ) -> Option<usize>
         requires { F.IsAlwaysCallable proper }
         ensures { (test : ℕ → T → Bool) → ((i : ℕ) (item : T) (r : Bool) → F.post proper i item r → r ≡ test i item)
             → result ≡ lowest test (lines_of self.now) 0 (items_of self.now) best }
