@@ -1,17 +1,15 @@
 -- Items more on an edge, in the slots behind its items.
-use Rattle.std.proofs.Common.{◌≡◌, ℕ, ◌+◌, ◌*◌, ◌<◌, ◌≤◌, List, ◌++◌, length, set, Ok, Err, sym, refl, ap, ◌∙◌, arith}
+use Rattle.std.proofs.Common.{◌≡◌, ℕ, ◌+◌, ◌*◌, ◌<◌, ◌≤◌, List, ◌++◌, length, set, Ok, sym, refl, ap, ◌∙◌, arith}
 use Rattle.std.proofs.lemmas.Bool.{le-leb}
 use Rattle.std.proofs.lemmas.Bool.Decides.{nat_tests}
 use Rattle.arrayvec.specs.ArrayVec.{with_items}
 use Rattle.items.specs.declared.Item.{Item}
-use Rattle.items.specs.declared.Refusal.TheVariants.{NoRoom}
-use Rattle.edges.specs.declared.fault.Fault.TheVariants.{Refused}
 use Rattle.edges.specs.declared.head.Head.{Head}
 use Rattle.edges.specs.declared.state.Edges.{Edges}
 use Rattle.edges.specs.Queues.{on, asked, added}
-use Rattle.edges.specs.Held.{head_of, IsHead, item_at, items_from, queue_of, queues_from, edges_of}
-use Rattle.edges.proofs.Slots.{items_same, items_append, items_length}
-use Rattle.edges.proofs.Numbered.{count_is, asked_is, counted_is, peeked_none, peeked_first, popped_not, edge_set, held_at, length_at, queues_at, behind}
+use Rattle.edges.specs.Held.{IsHead, item_at, items_from, queue_of, queues_from, edges_of}
+use Rattle.edges.proofs.Slots.{items_same, items_append, items_none, items_cons, items_length}
+use Rattle.edges.proofs.Numbered.{count_is, there_is, asked_is, popped_not, edge_set, held_at, length_at, queues_at, behind}
 
 -- n slots behind the items were written, or hold what is to be added already; g is the new head
 pub added_is : (ws vs : List ℕ) (q : Edges) (gs : List Head) (e n : ℕ) (h g : Head) (xs : List Item) → gs ≡ q.heads.items → 2064 * length q.heads.items ≤ length ws → IsHead q e h →
@@ -31,8 +29,4 @@ added_is ws vs q gs e n h g xs same enough at start len many put others =
     (ap Ok (sym (edge_set ws vs q gs e g (on (edges_of ws q) e ++ xs) same at.there here
     (λ j apart. others j (λ r. omega (arith, r.0, r.1))))))
 
-pub added_not : (ws : List ℕ) (q : Edges) (e : ℕ) (xs : List Item) → 2064 * length q.heads.items ≤ length ws → e < length q.heads.items →
-    256 < (head_of q e).len + length xs → asked (length ws) (edges_of ws q) e (added (edges_of ws q) e xs) ≡ Err (Refused NoRoom)
-added_not ws q e xs enough lt more = grind (arith, nat_tests, asked_is, queues_at, items_length)
-
-pub ruleset come_to = (nat_tests, count_is, counted_is, asked_is, peeked_none, peeked_first, popped_not, added_not, items_length)
+pub ruleset come_to = (nat_tests, count_is, there_is, asked_is, queues_at, items_none, items_cons, items_length, popped_not)

@@ -1,19 +1,19 @@
 -- The edges by their numbers.
-use Rattle.std.proofs.Common.{◌≡◌, ℕ, zero, suc, ◌+◌, ◌*◌, ◌/◌, ◌<◌, ◌≤◌, List, [], ◌∷◌, length, get_or, set, replicate, Bool, true, false, cond, ltb, Ok, Err, Result, sym, refl, ap, ◌∙◌, inl, inr, add-zero, zero-add, arith, length-set}
+use Rattle.std.proofs.Common.{◌≡◌, ℕ, zero, suc, ◌+◌, ◌*◌, ◌/◌, ◌<◌, ◌≤◌, List, [], ◌∷◌, length, get_or, set, replicate, Bool, true, false, cond, ltb, Err, Result, sym, refl, ap, ◌∙◌, inl, inr, add-zero, zero-add, arith, length-set}
 use Rattle.std.proofs.lemmas.List.{ext_get_or, get_or-set_same, get_or-set_other}
 use Rattle.std.proofs.lemmas.Bool.{cases_eq}
 use Rattle.std.proofs.lemmas.Bool.Decides.{nat_tests}
 use Rattle.arrayvec.specs.ArrayVec.{with_items}
 use Rattle.arrayvec.proofs.ArrayVecLemmas.{items-with_items}
 use Rattle.items.specs.declared.Item.{Item}
-use Rattle.items.specs.declared.Refusal.TheVariants.{NothingToTake, NotThere}
+use Rattle.items.specs.declared.Refusal.TheVariants.{NotThere}
 use Rattle.edges.specs.declared.fault.Fault.{Fault}
 use Rattle.edges.specs.declared.fault.Fault.TheVariants.{Refused, ShortMemory}
 use Rattle.edges.specs.declared.head.Head.{Head}
 use Rattle.edges.specs.declared.state.Edges.{Edges}
-use Rattle.edges.specs.Queues.{Queues, on, there, asked, counted, first_on, peeked, taken, popped}
-use Rattle.edges.specs.Held.{head_of, IsHead, item_at, queue_of, queues_from, edges_of, nobody}
-use Rattle.edges.proofs.Slots.{items_same, items_none, items_cons, items_length}
+use Rattle.edges.specs.Queues.{Queues, on, there, asked, first_on, peeked, taken, popped}
+use Rattle.edges.specs.Held.{IsHead, item_at, queue_of, queues_from, edges_of, nobody}
+use Rattle.edges.proofs.Slots.{items_same, items_none, items_length}
 
 queues_length : (ws : List ℕ) (e : ℕ) (hs : List Head) → length (queues_from ws e hs) ≡ length hs
 unfolding queues_from
@@ -88,18 +88,6 @@ held_at ws q e h at = queues_at ws q.heads.items e at.there ∙ ap (queue_of ws 
 
 pub length_at : (ws : List ℕ) (q : Edges) (e : ℕ) (h : Head) → IsHead q e h → length (on (edges_of ws q) e) ≡ h.len
 length_at ws q e h at = ap length (held_at ws q e h at) ∙ items_length ws (516 * e + h.start) h.len
-
--- what is counted and seen there
-pub counted_is : (ws : List ℕ) (q : Edges) (e : ℕ) → e < length q.heads.items → counted (edges_of ws q) e ≡ Ok (head_of q e).len
-counted_is ws q e lt = grind (arith, there_is, queues_at, items_length)
-
-pub peeked_none : (ws : List ℕ) (q : Edges) (e : ℕ) → 2064 * length q.heads.items ≤ length ws → e < length q.heads.items →
-    (head_of q e).len ≡ 0 → peeked (length ws) (edges_of ws q) e ≡ Err (Refused NothingToTake)
-peeked_none ws q e enough lt none = grind (arith, asked_is, queues_at, items_none)
-
-pub peeked_first : (ws : List ℕ) (q : Edges) (e : ℕ) → 2064 * length q.heads.items ≤ length ws → e < length q.heads.items →
-    0 < (head_of q e).len → peeked (length ws) (edges_of ws q) e ≡ Ok (item_at ws (516 * e + (head_of q e).start))
-peeked_first ws q e enough lt some = grind (arith, asked_is, queues_at, items_cons)
 
 -- what can't be seen can't be taken
 pub popped_not : (lent : ℕ) (qs : Queues) (e : ℕ) (f : Fault) → peeked lent qs e ≡ Err f → popped lent qs e ≡ Err f
