@@ -1,33 +1,22 @@
 // Edges, and what is on them.
 use crate::record;
 use edges::{Edges, Fault};
-use items::Item;
+use items::{Item, Refusal};
 use std::process::Abort;
 use std::test::Fail;
 
-// Why a call is not done, by the number of the refusal, and 0 where too few words are lent.
-const SHORT: u8 = 0;
+// Why a call is not done.
+const SHORT: Fault = Fault::ShortMemory;
 
-const NOTHING: u8 = 3;
+const NOTHING: Fault = Fault::Refused(Refusal::NothingToTake);
 
-const NO_ROOM: u8 = 4;
+const NO_ROOM: Fault = Fault::Refused(Refusal::NoRoom);
 
-const NOT_THERE: u8 = 5;
-
-fn told<T>(answer: Result<T, Fault>) -> Result<T, u8> {
-    match answer {
-        Ok(value) => Ok(value),
-        Err(Fault::Refused(refusal)) => Err(refusal.number()),
-        Err(Fault::ShortMemory) => Err(SHORT),
-    }
-}
+const NOT_THERE: Fault = Fault::Refused(Refusal::NotThere);
 
 // So many empty edges.
 fn empty(count: usize) -> Result<Edges, Fail> {
-    match Edges::new(count) {
-        Some(edges) => Ok(edges),
-        None => Err(Fail::new("too many edges")),
-    }
+    Edges::new(count).ok_or(Fail::new("too many edges"))
 }
 
 // Items of each kind, no two the same.
@@ -42,15 +31,15 @@ fn item(i: u32) -> Item {
 // The items from one number to another are put on an edge.
 fn fill(rt: &impl Abort, edges: &mut Edges, words: &mut [u32], e: usize, from: u32, to: u32) {
     for i in from..to {
-        assert_eq!(rt; told(edges.push(words, e, item(i))), Ok(()), "{}", i);
+        assert_eq!(rt; edges.push(words, e, item(i)), Ok(()), "{}", i);
     }
 }
 
 // They come first from an edge, in this order.
 fn drain(rt: &impl Abort, edges: &mut Edges, words: &mut [u32], e: usize, from: u32, to: u32) {
     for i in from..to {
-        assert_eq!(rt; told(edges.peek(words, e)), Ok(item(i)), "{}", i);
-        assert_eq!(rt; told(edges.pop(words, e)), Ok(item(i)), "{}", i);
+        assert_eq!(rt; edges.peek(words, e), Ok(item(i)), "{}", i);
+        assert_eq!(rt; edges.pop(words, e), Ok(item(i)), "{}", i);
     }
 }
 
@@ -61,7 +50,7 @@ fn how_many(rt: HostRuntime) -> Result<(), Fail> {
     assert_eq!(rt; empty(1)?.words(), 2064);
     let none = empty(0)?;
     assert_eq!(rt; none.words(), 0);
-    assert_eq!(rt; told(none.len(0)), Err(NOT_THERE));
+    assert_eq!(rt; none.len(0), Err(NOT_THERE));
     Ok(())
 }
 
@@ -69,15 +58,15 @@ fn how_many(rt: HostRuntime) -> Result<(), Fail> {
 fn edge_not_there(rt: HostRuntime) -> Result<(), Fail> {
     let mut words = vec![in rt.alloc(); 0u32; 6192]?;
     let mut edges = empty(2)?;
-    assert_eq!(rt; told(edges.len(2)), Err(NOT_THERE));
-    assert_eq!(rt; told(edges.peek(&words, 2)), Err(NOT_THERE));
-    assert_eq!(rt; told(edges.push(&mut words, 2, item(1))), Err(NOT_THERE));
-    assert_eq!(rt; told(edges.pop(&mut words, 2)), Err(NOT_THERE));
-    assert_eq!(rt; told(edges.clear(2)), Err(NOT_THERE));
-    assert_eq!(rt; told(edges.free(&words, 2)), Err(NOT_THERE));
-    assert_eq!(rt; told(edges.take_up(&words, 2, 1)), Err(NOT_THERE));
-    assert_eq!(rt; told(edges.len(0)), Ok(0));
-    assert_eq!(rt; told(edges.len(1)), Ok(0));
+    assert_eq!(rt; edges.len(2), Err(NOT_THERE));
+    assert_eq!(rt; edges.peek(&words, 2), Err(NOT_THERE));
+    assert_eq!(rt; edges.push(&mut words, 2, item(1)), Err(NOT_THERE));
+    assert_eq!(rt; edges.pop(&mut words, 2), Err(NOT_THERE));
+    assert_eq!(rt; edges.clear(2), Err(NOT_THERE));
+    assert_eq!(rt; edges.free(&words, 2), Err(NOT_THERE));
+    assert_eq!(rt; edges.take_up(&words, 2, 1), Err(NOT_THERE));
+    assert_eq!(rt; edges.len(0), Ok(0));
+    assert_eq!(rt; edges.len(1), Ok(0));
     Ok(())
 }
 
@@ -89,17 +78,13 @@ fn short_memory(rt: HostRuntime) -> Result<(), Fail> {
     let mut edges = empty(2)?;
     fill(&rt, &mut edges, &mut words, 0, 0, 2);
     let short = &mut words[0..4127];
-    assert_eq!(rt; told(edges.peek(short, 0)), Err(SHORT));
-    assert_eq!(rt; told(edges.push(short, 0, item(2))), Err(SHORT));
-    assert_eq!(rt; told(edges.pop(short, 0)), Err(SHORT));
-    assert_eq!(rt; told(edges.free(short, 0)), Err(SHORT));
-    assert_eq!(rt; told(edges.take_up(short, 0, 1)), Err(SHORT));
-    assert_eq!(rt;
-        told(edges.pop(short, 2)),
-        Err(SHORT),
-        "an edge that isn't there"
-    );
-    assert_eq!(rt; told(edges.len(0)), Ok(2));
+    assert_eq!(rt; edges.peek(short, 0), Err(SHORT));
+    assert_eq!(rt; edges.push(short, 0, item(2)), Err(SHORT));
+    assert_eq!(rt; edges.pop(short, 0), Err(SHORT));
+    assert_eq!(rt; edges.free(short, 0), Err(SHORT));
+    assert_eq!(rt; edges.take_up(short, 0, 1), Err(SHORT));
+    assert_eq!(rt; edges.pop(short, 2), Err(SHORT), "an edge that isn't there");
+    assert_eq!(rt; edges.len(0), Ok(2));
     drain(&rt, &mut edges, &mut words, 0, 0, 2);
     Ok(())
 }
@@ -108,14 +93,14 @@ fn short_memory(rt: HostRuntime) -> Result<(), Fail> {
 fn empty_and_full(rt: HostRuntime) -> Result<(), Fail> {
     let mut words = vec![in rt.alloc(); 0u32; 2064]?;
     let mut edges = empty(1)?;
-    assert_eq!(rt; told(edges.peek(&words, 0)), Err(NOTHING));
-    assert_eq!(rt; told(edges.pop(&mut words, 0)), Err(NOTHING));
+    assert_eq!(rt; edges.peek(&words, 0), Err(NOTHING));
+    assert_eq!(rt; edges.pop(&mut words, 0), Err(NOTHING));
     fill(&rt, &mut edges, &mut words, 0, 0, 256);
-    assert_eq!(rt; told(edges.len(0)), Ok(256));
-    assert_eq!(rt; told(edges.push(&mut words, 0, item(256))), Err(NO_ROOM));
-    assert_eq!(rt; told(edges.len(0)), Ok(256));
+    assert_eq!(rt; edges.len(0), Ok(256));
+    assert_eq!(rt; edges.push(&mut words, 0, item(256)), Err(NO_ROOM));
+    assert_eq!(rt; edges.len(0), Ok(256));
     drain(&rt, &mut edges, &mut words, 0, 0, 256);
-    assert_eq!(rt; told(edges.pop(&mut words, 0)), Err(NOTHING));
+    assert_eq!(rt; edges.pop(&mut words, 0), Err(NOTHING));
     Ok(())
 }
 
@@ -130,9 +115,9 @@ fn through(rt: &(impl Abort + AllocGlobal), waiting: u32) -> Result<(), Fail> {
         }
         fill(rt, &mut edges, &mut words, 0, i, i + 1);
     }
-    assert_eq!(rt; told(edges.len(0)), Ok(waiting as usize), "{}", waiting);
+    assert_eq!(rt; edges.len(0), Ok(waiting as usize), "{}", waiting);
     drain(rt, &mut edges, &mut words, 0, 1000 - waiting, 1000);
-    assert_eq!(rt; told(edges.len(0)), Ok(0), "{}", waiting);
+    assert_eq!(rt; edges.len(0), Ok(0), "{}", waiting);
     Ok(())
 }
 
@@ -153,9 +138,9 @@ fn neighbours(rt: HostRuntime) -> Result<(), Fail> {
     fill(&rt, &mut edges, &mut words, 1, 1000, 1256);
     drain(&rt, &mut edges, &mut words, 0, 0, 255);
     fill(&rt, &mut edges, &mut words, 0, 256, 511);
-    assert_eq!(rt; told(edges.len(0)), Ok(256));
-    assert_eq!(rt; told(edges.len(1)), Ok(256));
-    assert_eq!(rt; told(edges.len(2)), Ok(0));
+    assert_eq!(rt; edges.len(0), Ok(256));
+    assert_eq!(rt; edges.len(1), Ok(256));
+    assert_eq!(rt; edges.len(2), Ok(0));
     drain(&rt, &mut edges, &mut words, 1, 1000, 1256);
     fill(&rt, &mut edges, &mut words, 1, 2000, 2256);
     drain(&rt, &mut edges, &mut words, 0, 255, 511);
@@ -170,9 +155,9 @@ fn cleared(rt: HostRuntime) -> Result<(), Fail> {
     fill(&rt, &mut edges, &mut words, 0, 0, 2);
     fill(&rt, &mut edges, &mut words, 1, 10, 13);
     fill(&rt, &mut edges, &mut words, 2, 20, 22);
-    assert_eq!(rt; told(edges.clear(1)), Ok(()));
-    assert_eq!(rt; told(edges.len(1)), Ok(0));
-    assert_eq!(rt; told(edges.pop(&mut words, 1)), Err(NOTHING));
+    assert_eq!(rt; edges.clear(1), Ok(()));
+    assert_eq!(rt; edges.len(1), Ok(0));
+    assert_eq!(rt; edges.pop(&mut words, 1), Err(NOTHING));
     drain(&rt, &mut edges, &mut words, 0, 0, 2);
     drain(&rt, &mut edges, &mut words, 2, 20, 22);
     fill(&rt, &mut edges, &mut words, 1, 30, 32);
@@ -195,14 +180,14 @@ fn taken_up(rt: HostRuntime) -> Result<(), Fail> {
     assert!(rt; item(2).store(&mut free[0..4]).is_ok());
     assert!(rt; item(3).store(&mut free[4..8]).is_ok());
     assert!(rt; item(4).store(&mut free[8..12]).is_ok());
-    assert_eq!(rt; told(edges.len(1)), Ok(2));
-    assert_eq!(rt; told(edges.take_up(&words, 1, 255)), Err(NO_ROOM));
-    assert_eq!(rt; told(edges.take_up(&words, 1, 3)), Ok(()));
-    assert_eq!(rt; told(edges.len(1)), Ok(5));
-    assert_eq!(rt; told(edges.free(&words, 1)), Ok(2084..3088));
+    assert_eq!(rt; edges.len(1), Ok(2));
+    assert_eq!(rt; edges.take_up(&words, 1, 255), Err(NO_ROOM));
+    assert_eq!(rt; edges.take_up(&words, 1, 3), Ok(()));
+    assert_eq!(rt; edges.len(1), Ok(5));
+    assert_eq!(rt; edges.free(&words, 1), Ok(2084..3088));
     fill(&rt, &mut edges, &mut words, 1, 5, 6);
     drain(&rt, &mut edges, &mut words, 1, 0, 6);
-    assert_eq!(rt; told(edges.len(1)), Ok(0));
+    assert_eq!(rt; edges.len(1), Ok(0));
     Ok(())
 }
 
@@ -211,18 +196,18 @@ fn no_items_taken_up(rt: HostRuntime) -> Result<(), Fail> {
     let mut words = vec![in rt.alloc(); 0u32; 2064]?;
     assert!(rt; words.len() == 2064);
     let mut edges = empty(1)?;
-    assert_eq!(rt; told(edges.free(&words, 0)), Ok(0..1024));
+    assert_eq!(rt; edges.free(&words, 0), Ok(0..1024));
     words[0..12].copy_from_slice(&[4, 1, 2, 3, 2, 0, 10, 0, 3, 1, 7, 0]);
-    assert_eq!(rt; told(edges.take_up(&words, 0, 257)), Err(NO_ROOM));
-    assert_eq!(rt; told(edges.take_up(&words, 0, 256)), Ok(()));
-    assert_eq!(rt; told(edges.pop(&mut words, 0)), Ok(Item::Barrier(0)));
-    assert_eq!(rt; told(edges.pop(&mut words, 0)), Ok(Item::Watermark(10)));
-    assert_eq!(rt; told(edges.pop(&mut words, 0)), Ok(Item::Barrier(0)));
+    assert_eq!(rt; edges.take_up(&words, 0, 257), Err(NO_ROOM));
+    assert_eq!(rt; edges.take_up(&words, 0, 256), Ok(()));
+    assert_eq!(rt; edges.pop(&mut words, 0), Ok(Item::Barrier(0)));
+    assert_eq!(rt; edges.pop(&mut words, 0), Ok(Item::Watermark(10)));
+    assert_eq!(rt; edges.pop(&mut words, 0), Ok(Item::Barrier(0)));
     assert_eq!(rt;
-        told(edges.pop(&mut words, 0)),
+        edges.pop(&mut words, 0),
         Ok(Item::Barrier(0)),
         "all words 0"
     );
-    assert_eq!(rt; told(edges.len(0)), Ok(252));
+    assert_eq!(rt; edges.len(0), Ok(252));
     Ok(())
 }

@@ -4,7 +4,7 @@ use Rattle.std.proofs.lemmas.Bool.{and_parts, and_from}
 use Rattle.text.specs.Number.{most}
 use Rattle.text.specs.Words.{words_of, lines_of}
 use Rattle.text.specs.Laws.{lacks, all_lack}
-use Rattle.text.proofs.Joins.{lines_join}
+use Rattle.text.proofs.Joins.{lines_join_lem}
 use Rattle.text.proofs.Characters.{name_lacks}
 use Rattle.text.proofs.Spelling.{plain_number, one_plain, two_plain, one_back, two_back, with_plain, line_lacks, line_words}
 use Rattle.model.specs.declared.Kind.{Kind}
@@ -132,7 +132,7 @@ abbrev final : Topology → Shape
 final g = shape g.kinds g.edges (count_from 1 (length g.kinds)) (count_from (1 + length g.kinds) (length g.edges))
 
 text_lines : (g : Topology) (names : List (List ℕ)) → Proper g → all_writable names 0 g.kinds ≡ true → lines_of (text_of names g) ≡ worker_texts names 0 g.kinds ++ edge_texts g.edges
-text_lines g names p h = lines_join (worker_texts names 0 g.kinds ++ edge_texts g.edges) (all_lack_lem names 0 g.kinds (edge_texts g.edges) h (edges_lack g.edges (proper_fits g p)))
+text_lines g names p h = lines_join_lem (worker_texts names 0 g.kinds ++ edge_texts g.edges) (all_lack_lem names 0 g.kinds (edge_texts g.edges) h (edges_lack g.edges (proper_fits g p)))
 
 draft_back : (g : Topology) (names : List (List ℕ)) → Proper g → all_writable names 0 g.kinds ≡ true → drafted (text_of names g) ≡ complete (final g)
 draft_back g names p h =

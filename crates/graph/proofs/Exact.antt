@@ -8,7 +8,7 @@ use Rattle.text.specs.Number.{most}
 use Rattle.text.specs.Name.{is_name}
 use Rattle.text.specs.Words.{words_of, none_of, one_of, two_of}
 use Rattle.text.specs.Laws.{joined}
-use Rattle.text.proofs.Joins.{words_are}
+use Rattle.text.proofs.Joins.{words_are_lem}
 use Rattle.text.proofs.Tables.{not_some, some_same, which-way, only-way, lookup-word, mapped_from, none_is, one_is, two_is}
 use Rattle.model.specs.declared.Kind.{Kind}
 use Rattle.model.specs.declared.Kind.TheVariants as kind
@@ -112,6 +112,6 @@ line_back n (line.Edge x) h = let p = and_parts (leb x.from most) (leb x.to most
 
 pub line_is_lem : LineIs
 line_is_lem l said = (
-  λ h. let w = line_written (words_of l) said h in (w.0, w.1, sym (words_are l).1 ∙ w.2),
+  λ h. let w = line_written (words_of l) said h in (w.0, w.1, sym (words_are_lem l).1 ∙ w.2),
   λ n ok is. ap (λ x. line_of (words_of x)) is ∙ line_back n said ok,
 )

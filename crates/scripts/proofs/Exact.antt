@@ -5,7 +5,7 @@ use Rattle.text.specs.Number.{most}
 use Rattle.text.specs.Words.{words_of, none_of, one_of, two_of}
 use Rattle.text.specs.Name.{visible}
 use Rattle.text.specs.Laws.{joined}
-use Rattle.text.proofs.Joins.{words_are}
+use Rattle.text.proofs.Joins.{words_are_lem}
 use Rattle.text.proofs.Tables.{not_some, some_same, only-way, lookup-word, mapped_from, none_is, one_is, two_is}
 use Rattle.text.proofs.Spelling.{plain_number, one_plain, two_plain, one_back, two_back, line_words}
 use Rattle.model.specs.declared.Call.TheVariants.{Step, Feed, Checkpoint, Commit, Crash}
@@ -89,6 +89,6 @@ back command.Show h = refl
 
 pub command_is_lem : CommandIs
 command_is_lem l c = (
-  λ h. let s = words_spelt (words_of l) c h in (s.0, sym (words_are l).1 ∙ ap joined s.1),
+  λ h. let s = words_spelt (words_of l) c h in (s.0, sym (words_are_lem l).1 ∙ ap joined s.1),
   λ fits is. ap (λ x. command_of (words_of x)) is ∙ back c fits,
 )

@@ -14,11 +14,11 @@ words_join_lem w (v ∷ vs) h =
     let p = and_parts (lacks 32 w) (all_lack 32 (v ∷ vs)) h in
     part_first 32 ([] ∷ []) w (spaced v vs) p.0 ∙ ap (λ x. w ∷ x) (words_join_lem v vs p.1)
 
-pub lines_join : LinesJoin
-lines_join [] h = refl
-lines_join (l ∷ ls) h =
+pub lines_join_lem : LinesJoin
+lines_join_lem [] h = refl
+lines_join_lem (l ∷ ls) h =
     let p = and_parts (lacks 10 l) (all_lack 10 ls) h in
-    part_first 10 [] l (ended ls) p.0 ∙ ap (λ x. l ∷ x) (lines_join ls p.1)
+    part_first 10 [] l (ended ls) p.0 ∙ ap (λ x. l ∷ x) (lines_join_lem ls p.1)
 
 -- what two parts lack, both together lack
 lacks_both : (e : ℕ) (v w : List ℕ) → lacks e v ≡ true → lacks e w ≡ true → lacks e (v ++ w) ≡ true
@@ -47,8 +47,8 @@ parts_lack e base (b ∷ bs) h = go (eqb b e) refl (parts_of e base bs) (parts_l
     go true is ws k = k
     go false is ws k = with-one is ws k
 
-pub words_are : WordsAre
-words_are l = (parts_lack 32 ([] ∷ []) l refl, ap (join_with_byte 32) (words_split l) ∙ join_with_byte-slice_split 32 l)
+pub words_are_lem : WordsAre
+words_are_lem l = (parts_lack 32 ([] ∷ []) l refl, ap (join_with_byte 32) (words_split l) ∙ join_with_byte-slice_split 32 l)
 
 abbrev Ended : List ℕ → List (List ℕ) → Type 0
 Ended t ls = (ended ls ≡ t) ⊎ (ended ls ≡ t ++ 10 ∷ [])
