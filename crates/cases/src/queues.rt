@@ -16,7 +16,7 @@ const NOT_THERE: Fault = Fault::Refused(Refusal::NotThere);
 
 // So many empty edges.
 fn empty(count: usize) -> Result<Edges, Fail> {
-    Edges::new(count).ok_or(Fail::new("too many edges"))
+    Edges::new(count).ok_or_else(|| Fail::new("too many edges"))
 }
 
 // Items of each kind, no two the same.
