@@ -1,17 +1,15 @@
 -- The edges by their numbers.
-use Rattle.std.proofs.Common.{◌≡◌, ℕ, zero, suc, ◌+◌, ◌*◌, ◌/◌, ◌<◌, ◌≤◌, List, [], ◌∷◌, length, get_or, set, replicate, Bool, true, false, cond, ltb, Err, Result, sym, refl, ap, ◌∙◌, inl, inr, add-zero, zero-add, arith, length-set}
+use Rattle.std.proofs.Common.{◌≡◌, ℕ, zero, suc, ◌+◌, ◌*◌, ◌/◌, ◌<◌, ◌≤◌, List, [], ◌∷◌, length, get_or, set, replicate, Err, Result, sym, refl, ap, ◌∙◌, add-zero, zero-add, arith, length-set}
 use Rattle.std.proofs.lemmas.List.{ext_get_or, get_or-set_same, get_or-set_other}
 use Rattle.std.proofs.lemmas.Bool.{cases_eq}
 use Rattle.std.proofs.lemmas.Bool.Decides.{nat_tests}
 use Rattle.arrayvec.specs.ArrayVec.{with_items}
 use Rattle.arrayvec.proofs.ArrayVecLemmas.{items-with_items}
 use Rattle.items.specs.declared.Item.{Item}
-use Rattle.items.specs.declared.Refusal.TheVariants.{NotThere}
 use Rattle.edges.specs.declared.fault.Fault.{Fault}
-use Rattle.edges.specs.declared.fault.Fault.TheVariants.{Refused, ShortMemory}
 use Rattle.edges.specs.declared.head.Head.{Head}
 use Rattle.edges.specs.declared.state.Edges.{Edges}
-use Rattle.edges.specs.Queues.{Queues, on, there, asked, first_on, peeked, taken, popped}
+use Rattle.edges.specs.Queues.{Queues, on, there, asked, peeked, popped}
 use Rattle.edges.specs.Held.{IsHead, item_at, queue_of, queues_from, edges_of, nobody}
 use Rattle.edges.proofs.Slots.{items_same, items_none, items_length}
 
@@ -40,13 +38,7 @@ queues_set ws vs hs gs e is many lt here others =
     let l : length (queues_from vs 0 gs) ≡ length gs = queues_length vs 0 gs in
     let k : length (queues_from ws 0 hs) ≡ length hs = queues_length ws 0 hs in
     ext_get_or [] _ _ (simp (length-set) (l ∙ many ∙ sym k))
-    (λ d h.
-    queues_at vs gs d (omega arith)
-    ∙ elim (cases_eq d e) [
-      | inl same ↦ rw same (here ∙ sym (get_or-set_same (queues_from ws 0 hs) e is [] (omega arith)))
-      | inr ne ↦ others d (omega arith) ne
-          ∙ sym (get_or-set_other (queues_from ws 0 hs) e d is [] ne ∙ queues_at ws hs d (omega arith))
-    ])
+    (λ d h. grind (arith, nat_tests, queues_at, get_or-set_same, get_or-set_other, cases_eq d e, others d))
 
 -- an edge whose slots were not touched; slot j is one of edge j / 516
 pub apart : (ws vs : List ℕ) (e d : ℕ) (h : Head) → (d ≡ e → ⊥) → ((j : ℕ) → (j / 516 ≡ e → ⊥) → item_at vs j ≡ item_at ws j) → queue_of vs d h ≡ queue_of ws d h
@@ -91,14 +83,11 @@ length_at ws q e h at = ap length (held_at ws q e h at) ∙ items_length ws (516
 
 -- what can't be seen can't be taken
 pub popped_not : (lent : ℕ) (qs : Queues) (e : ℕ) (f : Fault) → peeked lent qs e ≡ Err f → popped lent qs e ≡ Err f
-popped_not lent qs e f = go (ltb lent (2064 * length qs)) (ltb e (length qs)) (on qs e)
+popped_not lent qs e f w = go (on qs e) refl
   where
-    go : (b c : Bool) (is : List Item) → cond b (Err ShortMemory) (cond c (first_on is) (Err (Refused NotThere))) ≡ Err f →
-        cond b (Err ShortMemory) (cond c (taken qs e is) (Err (Refused NotThere))) ≡ Err f
-    go true c is w = cc
-    go false false is w = cc
-    go false true [] w = cc
-    go false true (y ∷ is) w = absurd cc
+    go : (is : List Item) → on qs e ≡ is → popped lent qs e ≡ Err f
+    go [] at = grind (arith, nat_tests, w)
+    go (x ∷ is) at = grind (arith, nat_tests, w)
 
 -- the slot behind the items of edge e
 abbrev pub behind : ℕ → Head → ℕ

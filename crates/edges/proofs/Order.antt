@@ -1,77 +1,29 @@
 -- What calls do to an edge, one after the other.
-use Rattle.std.proofs.Common.{◌≡◌, ℕ, ◌+◌, ◌*◌, ◌<◌, ◌≤◌, Bool, true, false, cond, eqb, ltb, leb, List, [], ◌∷◌, ◌++◌, length, set, Ok, Err, Result, sym, refl, ap, ◌∙◌, inl, inr, arith}
+use Rattle.std.proofs.Common.{◌≡◌, ℕ, ◌≤◌, cond, eqb, List, [], ◌∷◌, ◌++◌, length, sym, refl, ap, ◌∙◌, arith}
 use Rattle.std.proofs.lemmas.List.{append-nil, append_assoc, length_push, get_or-set_same, get_or-set_other}
-use Rattle.std.proofs.lemmas.Bool.{cases_eq, cond_both, ltb-true, leb-true, eq-eqb, ne_eqb}
+use Rattle.std.proofs.lemmas.Bool.Decides.{nat_tests}
 use Rattle.items.specs.declared.Item.{Item}
-use Rattle.items.specs.declared.Refusal.TheVariants.{NothingToTake, NoRoom, NotThere}
-use Rattle.edges.specs.declared.fault.Fault.{Fault}
-use Rattle.edges.specs.declared.fault.Fault.TheVariants.{Refused, ShortMemory}
-use Rattle.edges.specs.Queues.{Queues, on, there, asked, taken, added}
-use Rattle.edges.specs.Laws.{Move, push, pop, with_more, with_less, moved, item_in, item_out, put_by, took_by, after, put_on, took_from, FirstInFirstOut}
-
--- what holds of each refusal, and of what a call comes to on an edge that is there, holds of the call
-by_asked : {A : Type 0} (P : Result A Fault → Type 0) (lent : ℕ) (qs : Queues) (e : ℕ) (r : Result A Fault) →
-    ((f : Fault) → P (Err f)) → (e < length qs → P r) → P (asked lent qs e r)
-by_asked P lent qs e r refused done =
-    cond_both (ltb lent (2064 * length qs)) (Err ShortMemory) (there qs e r) P (λ t. refused ShortMemory)
-    (λ t. cond_both (ltb e (length qs)) r (Err (Refused NotThere)) P (λ s. done (ltb-true e (length qs) s)) (λ s. refused (Refused NotThere)))
-
-nothing : (b : Bool) → cond {A = List Item} b [] [] ≡ []
-nothing true = refl
-nothing false = refl
+use Rattle.edges.specs.Queues.{Queues, on, asked, taken}
+use Rattle.edges.specs.Laws.{Move, push, pop, with_less, moved, item_out, put_by, took_by, after, put_on, took_from, FirstInFirstOut}
 
 -- on an edge: what one call took, and what is there then, is what was there and what the call put
 one : (lent : ℕ) (qs : Queues) (d : ℕ) (m : Move) → took_by lent qs d m ++ on (moved lent qs m) d ≡ on qs d ++ put_by lent qs d m
-one lent qs d (push e x) =
-    by_asked (λ r. on (with_more qs r) d ≡ on qs d ++ cond (eqb d e) (item_in x r) []) lent qs e (added qs e (x ∷ [])) refused
-    (λ h. cond_both (leb (length (on qs e) + 1) 256) (Ok (set qs e (on qs e ++ x ∷ []))) (Err (Refused NoRoom))
-    (λ r. on (with_more qs r) d ≡ on qs d ++ cond (eqb d e) (item_in x r) [])
-    (λ t. elim (cases_eq d e) [
-      | inl same ↦ rw (eq-eqb d e same, same) (get_or-set_same qs e (on qs e ++ x ∷ []) [] h)
-      | inr ne ↦ rw (ne_eqb d e ne) (get_or-set_other qs e d (on qs e ++ x ∷ []) [] ne ∙ sym (append-nil (on qs d)))
-    ])
-    (λ t. refused (Refused NoRoom)))
+one lent qs d (push e x) = grind (arith, nat_tests, append-nil, get_or-set_same, get_or-set_other)
+one lent qs d (pop e) = go (on qs e) refl
   where
-    refused : (f : Fault) → on qs d ≡ on qs d ++ cond {A = List Item} (eqb d e) [] []
-    refused f = rw (nothing (eqb d e)) (sym (append-nil (on qs d)))
-one lent qs d (pop e) =
-    by_asked (λ r. cond (eqb d e) (item_out r) [] ++ on (with_less qs r) d ≡ on qs d ++ []) lent qs e (taken qs e (on qs e)) refused
-    (λ h. go h (on qs e) refl)
-  where
-    refused : (f : Fault) → cond {A = List Item} (eqb d e) [] [] ++ on qs d ≡ on qs d ++ []
-    refused f = rw (nothing (eqb d e)) (sym (append-nil (on qs d)))
-
-    go : e < length qs → (is : List Item) → on qs e ≡ is →
-        cond (eqb d e) (item_out (taken qs e is)) [] ++ on (with_less qs (taken qs e is)) d ≡ on qs d ++ []
-    go h [] at = refused (Refused NothingToTake)
-    go h (x ∷ is) at =
-        elim (cases_eq d e) [
-          | inl same ↦ rw (eq-eqb d e same, same, append-nil (on qs e), at) (ap (λ (l : List Item). x ∷ l) (get_or-set_same qs e is [] h))
-          | inr ne ↦ rw (ne_eqb d e ne) (get_or-set_other qs e d is [] ne ∙ sym (append-nil (on qs d)))
-        ]
-
--- an edge whose items are others, and the edges beside it
-set_bounded : (qs : Queues) (e : ℕ) (is : List Item) → ((d : ℕ) → length (on qs d) ≤ 256) → e < length qs → length is ≤ 256 →
-    (d : ℕ) → length (on (set qs e is) d) ≤ 256
-set_bounded qs e is all h few d = elim (cases_eq d e) [
-  | inl same ↦ rw (same, get_or-set_same qs e is [] h) few
-  | inr ne ↦ rw (get_or-set_other qs e d is [] ne) (all d)
-]
+    go : (is : List Item) → on qs e ≡ is →
+        cond (eqb d e) (item_out (asked lent qs e (taken qs e is))) [] ++ on (with_less qs (asked lent qs e (taken qs e is))) d ≡ on qs d ++ []
+    go [] at = grind (arith, nat_tests, append-nil)
+    go (x ∷ is) at = grind (arith, nat_tests, append-nil, get_or-set_same, get_or-set_other)
 
 -- one call leaves no edge with more than 256
 bounded : (lent : ℕ) (qs : Queues) (m : Move) → ((e : ℕ) → length (on qs e) ≤ 256) → (d : ℕ) → length (on (moved lent qs m) d) ≤ 256
-bounded lent qs (push e x) all d =
-    by_asked (λ r. length (on (with_more qs r) d) ≤ 256) lent qs e (added qs e (x ∷ [])) (λ f. all d)
-    (λ h. cond_both (leb (length (on qs e) + 1) 256) (Ok (set qs e (on qs e ++ x ∷ []))) (Err (Refused NoRoom))
-    (λ r. length (on (with_more qs r) d) ≤ 256)
-    (λ t. set_bounded qs e (on qs e ++ x ∷ []) all h (rw (length_push (on qs e) x) (leb-true (length (on qs e) + 1) 256 t)) d)
-    (λ t. all d))
-bounded lent qs (pop e) all d =
-    by_asked (λ r. length (on (with_less qs r) d) ≤ 256) lent qs e (taken qs e (on qs e)) (λ f. all d) (λ h. go h (on qs e) refl)
+bounded lent qs (push e x) all d = grind (arith, nat_tests, get_or-set_same, get_or-set_other, length_push, all d)
+bounded lent qs (pop e) all d = go (on qs e) refl
   where
-    go : e < length qs → (is : List Item) → on qs e ≡ is → length (on (with_less qs (taken qs e is)) d) ≤ 256
-    go h [] at = all d
-    go h (x ∷ is) at = set_bounded qs e is all h (omega (arith, all e, ap length at)) d
+    go : (is : List Item) → on qs e ≡ is → length (on (with_less qs (asked lent qs e (taken qs e is))) d) ≤ 256
+    go [] at = grind (arith, nat_tests, all d)
+    go (x ∷ is) at = grind (arith, nat_tests, get_or-set_same, get_or-set_other, all d, all e)
 
 in_order : (lent : ℕ) (qs : Queues) (ms : List Move) (d : ℕ) → took_from lent qs d ms ++ on (after lent qs ms) d ≡ on qs d ++ put_on lent qs d ms
 unfolding after put_on took_from

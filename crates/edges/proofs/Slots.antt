@@ -1,7 +1,7 @@
 -- Items in slots of four words.
 use Rattle.std.proofs.Common.{rules, ◌≡◌, ℕ, zero, suc, ◌+◌, ◌-◌, ◌*◌, ◌<◌, ◌≤◌, List, [], ◌∷◌, ◌++◌, length, get_or, sym, refl, ap, ◌∙◌, inl, inr, take, add-zero, zero-add, arith, set, length-take, length-drop, drop, Option, Some, None, unwrap_or}
 use borrow.Rule.Slice.PartMut.{put_mid}
-use Rattle.std.proofs.lemmas.List.{places, get_or-take, get_or-drop}
+use Rattle.std.proofs.lemmas.List.{places}
 use Rattle.std.proofs.lemmas.Bool.{cases_lt}
 use Rattle.std.proofs.lemmas.Grind.{common_steps}
 use Rattle.items.specs.declared.Item.{Item}
@@ -55,7 +55,7 @@ slot_apart s m ws ys j fits len apart =
     ])
 
 -- the item in four words, and in a slot by its four words
-first_of_four : (vs : List ℕ) → 4 ≤ length vs → unwrap_or (first_in vs) (Barrier 0) ≡ or_stop (decoded (get_or vs 0 0) (get_or vs 1 0) (get_or vs 2 0) (get_or vs 3 0))
+first_of_four : (vs : List ℕ) → 4 ≤ length vs → unwrap_or (first_in vs) (Barrier 0) ≡ item_at vs 0
 first_of_four [] h = absurd (omega arith)
 first_of_four (a ∷ []) h = absurd (omega arith)
 first_of_four (a ∷ b ∷ []) h = absurd (omega arith)
@@ -69,10 +69,8 @@ first_of_four (a ∷ b ∷ c ∷ d ∷ vs) h = unwrapped (decoded a b c d)
 pub loaded : (ws : List ℕ) (n k : ℕ) → n ≡ 4 → 4 * k + 3 < length ws → unwrap_or (first_in (take n (drop (4 * k) ws))) (Barrier 0) ≡ item_at ws k
 loaded ws n k four h =
     let vs : List ℕ = take 4 (drop (4 * k) ws) in
-    let at : (n m : ℕ) → n < 4 → 4 * k + n ≡ m → get_or vs n 0 ≡ get_or ws m 0 =
-    λ n m lt is. get_or-take 4 (drop (4 * k) ws) n 0 lt ∙ get_or-drop (4 * k) ws n 0 ∙ ap (λ (x : ℕ). get_or ws x 0) is in
     rw four (first_of_four vs (simp (length-take, length-drop) (omega arith))
-    ∙ rw (at 0 (4 * k) (omega arith) (omega arith), at 1 _ (omega arith) refl, at 2 _ (omega arith) refl, at 3 _ (omega arith) refl) refl)
+    ∙ item_same vs ws 0 k (λ p q l u s. let at : q ≡ 4 * k + p = omega arith in rw at (search (rules, places))))
 
 -- two ranges hold the same items where each slot of the one is as that of the other
 pub items_same : (ws vs : List ℕ) (k m n : ℕ) →
@@ -93,10 +91,7 @@ items_none ws k n e = rw e refl
 pub items_cons : (ws : List ℕ) (k n : ℕ) → 0 < n → items_from ws k n ≡ item_at ws k ∷ items_from ws (k + 1) (n - 1)
 unfolding items_from
 items_cons ws k zero h = absurd (omega arith)
-items_cons ws k (suc n) h =
-    let e : suc n - 1 ≡ n = omega arith in
-    let f : k + 1 ≡ suc k = omega arith in
-    rw (e, f) refl
+items_cons ws k (suc n) h = grind arith
 
 pub items_one : (ws : List ℕ) (k : ℕ) (x : Item) → item_at ws k ≡ x → items_from ws k 1 ≡ x ∷ []
 unfolding items_from

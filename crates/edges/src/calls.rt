@@ -28,7 +28,7 @@ fn put_at(words: &mut [u32], slot: usize, item: Item)
     ensures here { item_at words.new slot ≡ item }
     ensures others { (j : ℕ) → (j ≢ slot) → item_at words.new j ≡ item_at words.old j }
 {
-    // Copied as one array, the four words take a queue twice as long.
+    // Copied as one array, the words would make each push and pop take twice as long.
     let [tag, key, time, amount] = item.encode();
     let at = ITEM * slot;
     words[at] = tag;
