@@ -118,10 +118,10 @@ fn run(rt: &HostRuntime) -> anyhow::Result<()> {
     ) {
         ("stream", _, None) => Ok(stream(rt, first.as_str())?),
         ("queue", Some(n), None) => queue(rt, n),
-        ("skip", _, Some(to)) => match number(to.as_str().as_bytes()) {
-            Some(to) => Ok(skip(rt, first.as_str(), to)?),
-            None => Err(anyhow!("{usage}")),
-        },
+        ("skip", _, Some(to)) => {
+            let to = number(to.as_str().as_bytes()).context(usage)?;
+            Ok(skip(rt, first.as_str(), to)?)
+        }
         _ => Err(anyhow!("{usage}")),
     }
 }
