@@ -7,6 +7,7 @@ ghost use Rattle.graph.specs.Faults.{fault_of};
 use crate::draft::Draft;
 use model::{Edge, Kind};
 
+// The two differ in the field that they read; as one function with a closure they would be longer.
 fn is_reached(ends: &[Edge], w: usize) -> bool
     ensures { result ≡ reached w ends.now }
 {

@@ -3,7 +3,7 @@ ghost use Rattle.std.specs.Prelude.{◌≡◌, ◌≤◌, ⊤, length};
 use std::alloc::AllocError;
 
 // Workers, or edges, in the order of their lines, each with its line's number. An array and its length, for graphs are
-// copied and never allocate; two arrays, for the items are lent as one slice.
+// copied, which an `ArrayVec` is not, and never allocate; two arrays, for the items are lent as one slice.
 pub struct Rows<T, const N: usize> {
     pub items: [T; N],
     pub lines: [usize; N],

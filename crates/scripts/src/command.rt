@@ -17,7 +17,7 @@ pub enum Word {
     Show,
 }
 
-// What a line asks for.
+// What a line asks for. No `Option` of a call: to show the state is a request too, and not the lack of one.
 #[derive(Clone, Copy)]
 pub enum Command {
     Call(Call),

@@ -7,6 +7,7 @@ use graph::Graph;
 use model::{Edge, Kind};
 use std::alloc::{AllocError, Global};
 
+// No `Display`: what stands for a kind in a graph has its numbers.
 fn kind_name(kind: Kind) -> &'static str
     ensures { result.now ≡ kind_name kind }
 {
