@@ -7,9 +7,8 @@ use Rattle.model.specs.Graph.{Topology, most_workers, most_edges}
 use Rattle.graph.specs.declared.line.Line.{Line}
 use Rattle.graph.specs.declared.line.Line.TheVariants as line
 use Rattle.graph.specs.declared.draft.Draft.{Draft}
-use Rattle.graph.specs.declared.draft.BadLine.{BadLine}
-use Rattle.graph.specs.Rows.{items_of}
-use Rattle.graph.specs.Rows as rows
+use Rattle.graph.specs.declared.draft.NotALine.{NotALine}
+use Rattle.graph.specs.Rows.{items_of, line_numbers}
 use Rattle.graph.specs.Line.{line_of}
 
 -- workers and edges in the order of their lines, and the numbers of those lines
@@ -26,8 +25,8 @@ abbrev pub shape_of : Draft → Shape
 shape_of d = record {
   kinds = items_of d.workers;
   edges = items_of d.edges;
-  worker_lines = rows.lines_of d.workers;
-  edge_lines = rows.lines_of d.edges;
+  worker_lines = line_numbers d.workers;
+  edge_lines = line_numbers d.edges;
 }
 
 abbrev pub bare : Shape
@@ -46,7 +45,7 @@ pub data Drafted : Type 0 where
   complete : Shape → Drafted
   bad_line : ℕ → Drafted
 
-abbrev pub draft_of : Result Draft BadLine → Drafted
+abbrev pub draft_of : Result Draft NotALine → Drafted
 draft_of (Ok d) = complete (shape_of d)
 draft_of (Err e) = bad_line e.0
 

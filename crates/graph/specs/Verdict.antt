@@ -5,8 +5,7 @@ use Rattle.text.specs.Words.{words_of, lines_of}
 use Rattle.model.specs.Graph.{Topology, Proper}
 use Rattle.graph.specs.declared.checked.Graph.{Graph}
 use Rattle.graph.specs.declared.refused.Refused.{Refused}
-use Rattle.graph.specs.Rows.{items_of}
-use Rattle.graph.specs.Rows as rows
+use Rattle.graph.specs.Rows.{items_of, line_numbers}
 use Rattle.graph.specs.Draft.{Shape, Drafted, complete, bad_line, topology, drafted}
 use Rattle.graph.specs.Faults.{fault_of}
 
@@ -19,7 +18,7 @@ pub data Verdict : Type 0 where
   refused : (number line : ℕ) → Verdict
 
 abbrev pub verdict_of : Result Graph Refused → Verdict
-verdict_of (Ok g) = graph (topology_of g) (rows.lines_of g.workers)
+verdict_of (Ok g) = graph (topology_of g) (line_numbers g.workers)
 verdict_of (Err e) = refused (number_of e.refusal) e.line
 
 abbrev pub judged : Shape → Option ℕ → Verdict

@@ -21,10 +21,16 @@ impl Graph {
         self.edges.items()
     }
 
+    fn has_worker(&self, worker: u32) -> bool
+        ensures { result ≡ addressed (topology_of self.now) (Call.Checkpoint worker) }
+    {
+        (worker as usize) < self.kinds().len()
+    }
+
     fn is_in_edge(&self, worker: u32, edge: u32) -> bool
         ensures { result ≡ addressed (topology_of self.now) (Call.Step worker edge) }
     {
-        (worker as usize) < self.kinds().len()
+        self.has_worker(worker)
             && self
                 .ends()
                 .get(edge as usize)
@@ -46,7 +52,7 @@ impl Graph {
         match call {
             Call::Step { worker, edge } => self.is_in_edge(worker, edge),
             Call::Feed { worker } => self.is_source(worker),
-            Call::Checkpoint { worker } => (worker as usize) < self.kinds().len(),
+            Call::Checkpoint { worker } => self.has_worker(worker),
             Call::Commit { .. } | Call::Crash => true,
         }
     }

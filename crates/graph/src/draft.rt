@@ -1,5 +1,5 @@
 // Workers and edges as the lines of a graph name them.
-ghost use Rattle.std.specs.Prelude.{◌≡◌, ℕ, true, false, MatchResult};
+ghost use Rattle.std.specs.Prelude.{◌≡◌, true, false, MatchResult};
 ghost use Rattle.graph.specs.Draft.{shape_of, bare, room_for, added_to, draft_of, drafted};
 
 use crate::line::{Line, read_line};
@@ -16,7 +16,7 @@ pub struct Draft {
 
 // The first line that is none of a graph, by its number.
 #[derive(Clone, Copy)]
-pub struct BadLine(pub usize);
+pub struct NotALine(pub usize);
 
 impl Draft {
     fn new() -> Draft
@@ -40,16 +40,17 @@ impl Draft {
         }
     }
 
-    pub fn read(text: &[u8]) -> Result<Draft, BadLine>
+    // The draft of a text, or the first line that is none of a graph.
+    pub fn read(text: &[u8]) -> Result<Draft, NotALine>
         ensures { draft_of result ≡ drafted text.now }
     {
         let mut draft = Draft::new();
         for (n, line) in Lines::new(text).enumerate() {
-            let said = read_line(line).ok_or(BadLine(n + 1))?;
-            draft.add(said, n + 1).map_err(|_| BadLine(n + 1))?;
+            let said = read_line(line).ok_or(NotALine(n + 1))?;
+            draft.add(said, n + 1).map_err(|_| NotALine(n + 1))?;
         }
         if draft.workers.items().is_empty() {
-            return Err(BadLine(Lines::new(text).count() + 1));
+            return Err(NotALine(Lines::new(text).count() + 1));
         }
         Ok(draft)
     }

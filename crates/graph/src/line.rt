@@ -4,7 +4,7 @@ ghost use Rattle.text.specs.Words.{words_of};
 ghost use Rattle.graph.specs.Line.{kind_named, journal_of, kind_of, worker_of, edge_of, line_of};
 
 use model::{Edge, Kind};
-use text::{Words, is_name};
+use text::{Words, is_name, same};
 
 // The kinds of workers by name.
 #[derive(Clone, Copy)]
@@ -44,6 +44,7 @@ fn kind_named(word: &[u8]) -> Option<Name>
 fn journal(mut words: Words) -> bool
     ensures { result ≡ journal_of words.entry }
 {
+    // not `is_some_and`: the check doesn't see what its closure takes of the words
     match words.next() {
         Some(word) => words.no_word() && is_name(word),
         None => false,
@@ -98,9 +99,12 @@ pub fn read_line(bytes: &[u8]) -> Option<Line>
     ensures { result ≡ line_of (words_of bytes.now) }
 {
     let mut words = Words::new(bytes);
-    match words.next()? {
-        b"worker" => read_worker(words),
-        b"edge" => read_edge(words),
-        _ => None,
+    let word = words.next()?;
+    if same(word, b"worker") {
+        read_worker(words)
+    } else if same(word, b"edge") {
+        read_edge(words)
+    } else {
+        None
     }
 }

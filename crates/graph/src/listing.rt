@@ -1,7 +1,7 @@
 // Rows grow line by line, and are looked through.
 ghost use Rattle.std.specs.Prelude.{◌≡◌, ℕ, ◌<◌, Bool, [], ◌∷◌, ◌++◌, length, MatchResult};
 ghost use Rattle.graph.specs.Faults.{least, lowest};
-ghost use Rattle.graph.specs.Rows.{items_of, lines_of};
+ghost use Rattle.graph.specs.Rows.{items_of, line_numbers};
 
 use crate::rows::Rows;
 
@@ -19,7 +19,7 @@ fn lower(best: Option<usize>, line: usize) -> Option<usize>
 impl<T: Copy, const N: usize> Rows<T, N> {
     // No item; the places are filled with one that nobody sees.
     pub fn new(blank: T) -> Rows<T, N>
-        ensures { (items_of result ≡ []) × (lines_of result ≡ []) }
+        ensures { (items_of result ≡ []) × (line_numbers result ≡ []) }
     {
         Rows {
             items: [blank; N],
@@ -35,7 +35,7 @@ impl<T: Copy, const N: usize> Rows<T, N> {
     }
 
     pub fn lines(&self) -> &[usize]
-        ensures { result.now ≡ lines_of self.now }
+        ensures { result.now ≡ line_numbers self.now }
     {
         &self.lines[..self.len]
     }
@@ -43,7 +43,7 @@ impl<T: Copy, const N: usize> Rows<T, N> {
     // One item more, if a place is left.
     pub fn push(&mut self, item: T, line: usize) -> Result<(), Full>
         ensures { MatchResult result
-            (λ _. (length (items_of self.old) < N) × (items_of self.new ≡ items_of self.old ++ item ∷ []) × (lines_of self.new ≡ lines_of self.old ++ line ∷ []))
+            (λ _. (length (items_of self.old) < N) × (items_of self.new ≡ items_of self.old ++ item ∷ []) × (line_numbers self.new ≡ line_numbers self.old ++ line ∷ []))
             (λ _. (length (items_of self.old) ≡ N) × (self.new ≡ self.old)) }
     {
         if self.len == N {
@@ -63,7 +63,7 @@ impl<T: Copy, const N: usize> Rows<T, N> {
     ) -> Option<usize>
         requires { F.IsAlwaysCallable proper }
         ensures { (test : ℕ → T → Bool) → ((i : ℕ) (item : T) (r : Bool) → F.post proper i item r → r ≡ test i item)
-            → result ≡ lowest test (lines_of self.now) 0 (items_of self.now) best }
+            → result ≡ lowest test (line_numbers self.now) 0 (items_of self.now) best }
     {
         let mut best = best;
         for (i, item) in self.items().iter().enumerate() {

@@ -1,7 +1,7 @@
 ghost use Rattle.std.specs.Prelude.{◌≡◌};
-ghost use Rattle.items.specs.declared.Refusal.TheVariants.{BadLine as OfLine};
+ghost use Rattle.items.specs.declared.Refusal.TheVariants.{BadLine};
 
-use crate::draft::BadLine;
+use crate::draft::NotALine;
 use items::Refusal;
 
 // Why a text is refused, and by which line.
@@ -11,10 +11,10 @@ pub struct Refused {
     pub line: usize,
 }
 
-impl From<BadLine> for Refused {
-    ghost from_gives = { λ bad r. r ≡ record { refusal = OfLine; line = bad.0 } };
+impl From<NotALine> for Refused {
+    ghost from_gives = { λ bad r. r ≡ record { refusal = BadLine; line = bad.0 } };
 
-    fn from(bad: BadLine) -> Self {
+    fn from(bad: NotALine) -> Self {
         Refused {
             refusal: Refusal::BadLine,
             line: bad.0,

@@ -9,4 +9,4 @@ mod words;
 pub use digits::number;
 pub use name::is_name;
 pub use theorems::{lines_are, lines_join, name_is, number_is, words_are, words_join};
-pub use words::{Lines, Words, line_at, next_line};
+pub use words::{Lines, Words, line_at, next_line, same};

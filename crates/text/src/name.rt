@@ -4,13 +4,11 @@ ghost use Rattle.text.specs.Name.{is_name, visible};
 
 use std::str;
 
-const SPACE: u8 = 32;
-
 // Whether every byte is above a space.
 fn is_visible(word: &[u8]) -> bool
     ensures { result ≡ visible word.now }
 {
-    word.iter().all(|byte| *byte > SPACE)
+    word.iter().all(|byte| *byte > b' ')
 }
 
 // Whether a word can be a file's name: UTF-8, not empty, every byte above a space.

@@ -1,15 +1,12 @@
 // Lines of a text, and words of a line.
 ghost use Rattle.std.specs.Prelude.{◌≡◌, ◌<◌, ◌≤◌, true, [], ◌∷◌, ◌++◌, length, MatchOption, slice_index_or};
 ghost use Rattle.std.specs.Iterator.{YieldsFirstRef, item_count};
+ghost use Rattle.std.specs.Str.{bytes_eq};
 ghost use Rattle.text.specs.Words.{words_of, lines_of, none_of, one_of, two_of};
 ghost use Rattle.text.specs.Laws.{lacks};
 
 use crate::digits::number;
 use std::marker::Model;
-
-const SPACE: u8 = 32;
-
-const LINE_FEED: u8 = 10;
 
 // What stands before the first byte that is `end`, and what stands after it; all of them and `None` where there is none.
 fn cut(bytes: &[u8], end: u8) -> (&[u8], Option<&[u8]>)
@@ -22,7 +19,15 @@ fn cut(bytes: &[u8], end: u8) -> (&[u8], Option<&[u8]>)
     }
 }
 
-// The words of a line that are left; `None` where no word is to come.
+// Whether a word is a given one.
+pub fn same(word: &[u8], name: &[u8]) -> bool
+    ensures { result ≡ bytes_eq word.now name.now }
+{
+    word == name
+}
+
+// The words of a line that are left; `None` where no word is to come. Not the library's `split`, for the type of its
+// closure has no name.
 #[derive(Drop)]
 pub struct Words<'a> {
     rest: Option<&'a [u8]>,
@@ -78,7 +83,7 @@ impl<'a> Iterator for Words<'a> {
     ghost remaining = { item_count (λ words. words) };
 
     fn next(&mut self) -> Option<&'a [u8]> {
-        let (word, rest) = cut(self.rest?, SPACE);
+        let (word, rest) = cut(self.rest?, b' ');
         self.rest = rest;
         Some(word)
     }
@@ -131,7 +136,7 @@ pub fn next_line(text: &[u8]) -> Option<(&[u8], &[u8])>
     if text.is_empty() {
         return None;
     }
-    let (line, rest) = cut(text, LINE_FEED);
+    let (line, rest) = cut(text, b'\n');
     Some((line, rest.unwrap_or(&[])))
 }
 
