@@ -3,7 +3,8 @@ ghost use Rattle.edges.specs.Faults.{refusal_of};
 
 use items::Refusal;
 
-// Why a call on an edge is not done: it is refused, or the lent words are too few for these edges.
+// Why a call on an edge is not done: it is refused, or the lent words are too few for these edges. No `Option` of a
+// refusal: too few words are a mistake of their own (D66).
 #[derive(Clone, Copy, PartialEq, Eq, Debug, Drop)]
 pub enum Fault {
     Refused(Refusal),

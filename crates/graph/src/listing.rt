@@ -66,6 +66,7 @@ impl<T: Copy, const N: usize> Rows<T, N> {
             → result ≡ lowest test (line_numbers self.now) 0 (items_of self.now) best }
     {
         let mut best = best;
+        // the line by its place, for over a `zip` of both the invariant did not close
         for (i, item) in self.items().iter().enumerate() {
             if !proper(i, *item) {
                 best = lower(best, self.lines[i]);

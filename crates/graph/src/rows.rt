@@ -14,7 +14,7 @@ pub struct Rows<T, const N: usize> {
 
 impl<T: Copy, const N: usize> Copy for Rows<T, N> {}
 
-// By hand, for none is derived over a ghost field.
+// By hand, for over a ghost field `Clone` is derived only where the type is `Copy` for each `T`.
 impl<T: Copy, const N: usize> Clone for Rows<T, N> {
     ghost is_clone = { λ rows copy. copy ≡ rows };
 

@@ -12,6 +12,8 @@ use text::Lines;
 // What ends a rehearsal with status 1, each with its line for standard error.
 #[derive(Drop)]
 enum Failure<'a> {
+    Arguments(io::Error),
+    Usage,
     Unreadable(&'a str, io::Error),
     Refused(&'a str, Refused),
     NotBuilt(&'a str, usize),
@@ -31,6 +33,7 @@ impl From<AllocError> for Failure<'_> {
     }
 }
 
+// A graph is refused by these two alone.
 fn reason(refusal: Refusal) -> &'static str {
     match refusal {
         Refusal::BadLine => "no line of a graph, a 33rd worker, a 65th edge, or no worker at all",
@@ -43,6 +46,8 @@ fn reason(refusal: Refusal) -> &'static str {
 impl fmt::Display for Failure<'_> {
     fn fmt<W: fmt::Write>(&self, f: &mut fmt::Formatter<W>) -> fmt::Result {
         match self {
+            Failure::Arguments(error) => write!(f, "arguments: {error}"),
+            Failure::Usage => f.write_str("usage: rehearse GRAPH SCRIPT"),
             Failure::Unreadable(path, error) => write!(f, "{path}: {error}"),
             Failure::Refused(path, refused) => {
                 let number = refused.refusal.number();
@@ -113,26 +118,24 @@ fn rehearse<'a>(
     }
 }
 
-// What was wrong has been said on standard error, or could not be.
+// Says what was wrong; the status is 1.
+fn fail(rt: &HostRuntime, failure: Failure) -> io::Result<ExitCode> {
+    eprintln!(rt; "rehearse: {failure}")?;
+    Ok(ExitCode::FAILURE)
+}
+
 fn run(rt: &HostRuntime) -> io::Result<ExitCode> {
     let mut args = match env::args(rt) {
         Ok(args) => args,
-        Err(error) => {
-            eprintln!(rt; "rehearse: arguments: {error}")?;
-            return Ok(ExitCode::FAILURE);
-        }
+        Err(error) => return fail(rt, Failure::Arguments(error)),
     };
     let _program = args.next();
     let (Some(graph), Some(script), None) = (args.next(), args.next(), args.next()) else {
-        eprintln!(rt; "rehearse: usage: rehearse GRAPH SCRIPT")?;
-        return Ok(ExitCode::FAILURE);
+        return fail(rt, Failure::Usage);
     };
     match rehearse(rt, graph.as_str(), script.as_str()) {
         Ok(()) => Ok(ExitCode::SUCCESS),
-        Err(failure) => {
-            eprintln!(rt; "rehearse: {failure}")?;
-            Ok(ExitCode::FAILURE)
-        }
+        Err(failure) => fail(rt, failure),
     }
 }
 

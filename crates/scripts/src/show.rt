@@ -7,7 +7,7 @@ use graph::Graph;
 use model::{Edge, Kind};
 use std::alloc::{AllocError, Global};
 
-// No `Display`: what stands for a kind in a graph has its numbers.
+// No `Display` of a kind: in a graph its numbers stand beside its name.
 fn kind_name(kind: Kind) -> &'static str
     ensures { result.now ≡ kind_name kind }
 {
