@@ -1,9 +1,13 @@
 -- What is shown of a graph that has not begun, line by line.
-use Rattle.std.specs.Prelude.{ℕ, ◌+◌, Bool, true, false, cond, not, ◌&&◌, List, [], ◌∷◌, ◌++◌, codes, decimal, ◌==◌}
+use Rattle.std.specs.Prelude.{◌≡◌, ℕ, ◌+◌, Bool, true, false, cond, not, ◌&&◌, List, [], ◌∷◌, ◌++◌, Result, IfOk, String, codes, decimal, string_bytes, ◌==◌}
 use Rattle.model.specs.declared.Kind.{Kind}
 use Rattle.model.specs.declared.Kind.TheVariants.{Source, Keep, Scale, Group, Spread, Window, Sink}
 use Rattle.model.specs.declared.Edge.{Edge}
 use Rattle.model.specs.Graph.{Topology, is_source, is_sink}
+
+-- a text that was written is these bytes; where memory ran out there is none
+abbrev pub Spells : {A E : Type 0} → Result (String A) E → List ℕ → Type 0
+Spells written bytes = IfOk written (λ s. string_bytes s ≡ bytes)
 
 -- the texts of the items from number i on, one behind the other
 abbrev pub texts_from : {X : Type 0} → (text : ℕ → X → List ℕ) → ℕ → List X → List ℕ

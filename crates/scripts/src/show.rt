@@ -1,7 +1,7 @@
 // What is shown of a graph that has not begun.
-ghost use Rattle.std.specs.Prelude.{◌≡◌, ℕ, true, List, IfOk, string_bytes};
+ghost use Rattle.std.specs.Prelude.{◌≡◌, ℕ, true, List};
 ghost use Rattle.graph.specs.Verdict.{topology_of};
-ghost use Rattle.scripts.specs.Show.{texts_from, kind_name, kind_tail, zeros, line_with, source_text, reached_text, worker_text, edge_text, length_text, joined_text, fresh_text};
+ghost use Rattle.scripts.specs.Show.{Spells, texts_from, kind_name, kind_tail, zeros, line_with, source_text, reached_text, worker_text, edge_text, length_text, joined_text, fresh_text};
 
 use graph::Graph;
 use model::{Edge, Kind};
@@ -41,8 +41,8 @@ fn texts<T: Copy, F: Fn(usize, T) -> Result<String, AllocError>>(
     text: F,
 ) -> Result<String, AllocError>
     requires { F.IsAlwaysCallable text }
-    ensures { (said : ℕ → T → List ℕ) → ((i : ℕ) (item : T) (r : _) → F.post text i item r → IfOk r (λ s. string_bytes s ≡ said i item))
-        → IfOk result (λ s. string_bytes s ≡ texts_from said 0 items.now) }
+    ensures { (said : ℕ → T → List ℕ) → ((i : ℕ) (item : T) (r : _) → F.post text i item r → Spells r (said i item))
+        → Spells result (texts_from said 0 items.now) }
 {
     let mut out = String::new(heap);
     for (i, item) in items.iter().enumerate() {
@@ -53,7 +53,7 @@ fn texts<T: Copy, F: Fn(usize, T) -> Result<String, AllocError>>(
 }
 
 fn edge_line(heap: Global, e: usize, edge: Edge) -> Result<String, AllocError>
-    ensures { IfOk result (λ s. string_bytes s ≡ edge_text e edge) }
+    ensures { Spells result (edge_text e edge) }
 {
     let Edge { from, to } = edge;
     format!(in heap; "edge {e} {from} {to} -\n")
@@ -61,7 +61,7 @@ fn edge_line(heap: Global, e: usize, edge: Edge) -> Result<String, AllocError>
 
 // The last watermarks of the edges that reach a worker: 0 each.
 fn watermarks(heap: Global, ends: &[Edge], w: usize) -> Result<String, AllocError>
-    ensures { IfOk result (λ s. string_bytes s ≡ zeros true w ends.now) }
+    ensures { Spells result (zeros true w ends.now) }
 {
     let mut out = String::new(heap);
     for edge in ends {
@@ -73,7 +73,7 @@ fn watermarks(heap: Global, ends: &[Edge], w: usize) -> Result<String, AllocErro
 }
 
 fn source_line(heap: Global, w: usize) -> Result<String, AllocError>
-    ensures { IfOk result (λ s. string_bytes s ≡ source_text w) }
+    ensures { Spells result (source_text w) }
 {
     format!(in heap; "worker {w} source cut 0 read 0\n")
 }
@@ -85,20 +85,20 @@ fn line_with(
     words: &str,
     tail: &str,
 ) -> Result<String, AllocError>
-    ensures { IfOk result (λ s. string_bytes s ≡ line_with w name.now words.now tail.now) }
+    ensures { Spells result (line_with w name.now words.now tail.now) }
 {
     format!(in heap; "worker {w} {name} cut 0 words {words} held -{tail}\n")
 }
 
 fn reached_line(heap: Global, ends: &[Edge], w: usize, kind: Kind) -> Result<String, AllocError>
-    ensures { IfOk result (λ s. string_bytes s ≡ reached_text ends.now w kind) }
+    ensures { Spells result (reached_text ends.now w kind) }
 {
     let words = watermarks(heap, ends, w)?;
     line_with(heap, w, kind_name(kind), words.as_str(), kind_tail(kind))
 }
 
 fn worker_line(heap: Global, ends: &[Edge], w: usize, kind: Kind) -> Result<String, AllocError>
-    ensures { IfOk result (λ s. string_bytes s ≡ worker_text ends.now w kind) }
+    ensures { Spells result (worker_text ends.now w kind) }
 {
     if kind.is_source() {
         source_line(heap, w)
@@ -109,20 +109,20 @@ fn worker_line(heap: Global, ends: &[Edge], w: usize, kind: Kind) -> Result<Stri
 
 // What is published of a sink: nothing.
 fn length(heap: Global, kind: Kind) -> Result<String, AllocError>
-    ensures { IfOk result (λ s. string_bytes s ≡ length_text kind) }
+    ensures { Spells result (length_text kind) }
 {
     String::from_str(heap, if kind.is_sink() { " 0" } else { "" })
 }
 
 fn joined(heap: Global, workers: &str, edges: &str, lengths: &str) -> Result<String, AllocError>
-    ensures { IfOk result (λ s. string_bytes s ≡ joined_text workers.now edges.now lengths.now) }
+    ensures { Spells result (joined_text workers.now edges.now lengths.now) }
 {
     format!(in heap; "{workers}{edges}whole 0 published{lengths}\n")
 }
 
 // What `show` prints of a graph that has not begun.
 pub fn fresh_text(heap: Global, graph: &Graph) -> Result<String, AllocError>
-    ensures { IfOk result (λ s. string_bytes s ≡ fresh_text (topology_of graph.now)) }
+    ensures { Spells result (fresh_text (topology_of graph.now)) }
 {
     let kinds = graph.kinds();
     let ends = graph.ends();
