@@ -8,18 +8,8 @@ fn verdict(text: &[u8]) -> Result<(), Refused> {
     Ok(())
 }
 
-fn bad_line(line: usize) -> Result<(), Refused> {
-    Err(Refused {
-        refusal: Refusal::BadLine,
-        line,
-    })
-}
-
-fn bad_graph(line: usize) -> Result<(), Refused> {
-    Err(Refused {
-        refusal: Refusal::BadGraph,
-        line,
-    })
+fn refused(refusal: Refusal, line: usize) -> Result<(), Refused> {
+    Err(Refused { refusal, line })
 }
 
 #[test]
@@ -31,36 +21,40 @@ fn every_kind(rt: HostRuntime) {
 
 #[test]
 fn bad_lines(rt: HostRuntime) {
-    assert_eq!(rt; verdict(b""), bad_line(1), "no worker");
+    assert_eq!(rt; verdict(b""), refused(Refusal::BadLine, 1), "no worker");
     assert_eq!(rt;
         verdict(b"edge 0 1\n"),
-        bad_line(2),
+        refused(Refusal::BadLine, 2),
         "no worker behind an edge"
     );
     assert_eq!(rt;
         verdict(b"worker source a\n\n"),
-        bad_line(2),
+        refused(Refusal::BadLine, 2),
         "an empty line"
     );
-    assert_eq!(rt; verdict(b"worker  sink\n"), bad_line(1), "two spaces");
+    assert_eq!(rt;
+        verdict(b"worker  sink\n"),
+        refused(Refusal::BadLine, 1),
+        "two spaces"
+    );
     assert_eq!(rt;
         verdict(b"worker sink\r\n"),
-        bad_line(1),
+        refused(Refusal::BadLine, 1),
         "a carriage return"
     );
     assert_eq!(rt;
         verdict(b"worker group 01\n"),
-        bad_line(1),
+        refused(Refusal::BadLine, 1),
         "a leading zero"
     );
     assert_eq!(rt;
         verdict(b"worker group 4294967296\n"),
-        bad_line(1),
+        refused(Refusal::BadLine, 1),
         "33 bits"
     );
     assert_eq!(rt;
         verdict(b"worker source \xff\n"),
-        bad_line(1),
+        refused(Refusal::BadLine, 1),
         "a name that is no text"
     );
 }
@@ -69,47 +63,47 @@ fn bad_lines(rt: HostRuntime) {
 fn bad_graphs(rt: HostRuntime) {
     assert_eq!(rt;
         verdict(b"worker source a\nworker keep 2 1\nworker sink\nedge 0 1\nedge 1 2"),
-        bad_graph(2),
+        refused(Refusal::BadGraph, 2),
         "low above high"
     );
     assert_eq!(rt;
         verdict(b"worker source a\nworker scale 1 0\nworker sink\nedge 0 1\nedge 1 2"),
-        bad_graph(2),
+        refused(Refusal::BadGraph, 2),
         "a division by 0"
     );
     assert_eq!(rt;
         verdict(b"worker source a\nworker window 0\nworker sink\nedge 0 1\nedge 1 2"),
-        bad_graph(2),
+        refused(Refusal::BadGraph, 2),
         "a length of 0"
     );
     assert_eq!(rt;
         verdict(b"worker source a\nworker sink\nedge 0 1\nedge 1 1"),
-        bad_graph(4),
+        refused(Refusal::BadGraph, 4),
         "an edge that does not go up"
     );
     assert_eq!(rt;
         verdict(b"worker source a\nworker sink\nedge 0 1\nedge 0 2"),
-        bad_graph(4),
+        refused(Refusal::BadGraph, 4),
         "an edge to nowhere"
     );
     assert_eq!(rt;
         verdict(b"worker source a\nworker source b\nworker sink\nedge 0 2\nedge 1 2\nedge 0 1"),
-        bad_graph(6),
+        refused(Refusal::BadGraph, 6),
         "into a source"
     );
     assert_eq!(rt;
         verdict(b"worker source a\nworker sink\nworker sink\nedge 0 1\nedge 0 2\nedge 1 2"),
-        bad_graph(6),
+        refused(Refusal::BadGraph, 6),
         "out of a sink"
     );
     assert_eq!(rt;
         verdict(b"worker source a\nworker sink\nworker sink\nedge 0 1"),
-        bad_graph(3),
+        refused(Refusal::BadGraph, 3),
         "no edge reaches it"
     );
     assert_eq!(rt;
         verdict(b"worker source a\nworker source b\nworker sink\nedge 0 2"),
-        bad_graph(2),
+        refused(Refusal::BadGraph, 2),
         "no edge leaves it"
     );
 }
@@ -118,6 +112,6 @@ fn bad_graphs(rt: HostRuntime) {
 fn the_lowest_number_first(rt: HostRuntime) {
     assert_eq!(rt;
         verdict(b"worker sink\nworker sink\nworker sin\nworker si\n"),
-        bad_line(3)
+        refused(Refusal::BadLine, 3)
     );
 }

@@ -5,11 +5,8 @@ use std::test::Fail;
 
 #[test]
 fn answers(rt: HostRuntime) -> Result<(), Fail> {
-    let Ok(graph) = graph::read(
-        b"worker source a\nworker keep 1 2\nworker sink\nedge 0 1\nedge 1 2",
-    ) else {
-        return Err(Fail::new("no graph"));
-    };
+    let text = b"worker source a\nworker keep 1 2\nworker sink\nedge 0 1\nedge 1 2";
+    let graph = graph::read(text).map_err(|_| Fail::new("no graph"))?;
     assert_eq!(rt; answer_to(&graph, b"show"), Ok(Answer::Shown));
     assert_eq!(rt; answer_to(&graph, b"show "), Err(Refusal::BadLine));
     assert_eq!(rt; answer_to(&graph, b"step 1 0"), Err(Refusal::NothingToTake));

@@ -2,6 +2,7 @@
 use crate::record;
 use edges::{Edges, Fault};
 use items::{Item, Refusal};
+use std::ops::Range;
 use std::process::Abort;
 use std::test::Fail;
 
@@ -29,15 +30,15 @@ fn item(i: u32) -> Item {
 }
 
 // The items from one number to another are put on an edge.
-fn fill(rt: &impl Abort, edges: &mut Edges, words: &mut [u32], e: usize, from: u32, to: u32) {
-    for i in from..to {
+fn fill(rt: &impl Abort, edges: &mut Edges, words: &mut [u32], e: usize, numbers: Range<u32>) {
+    for i in numbers {
         assert_eq!(rt; edges.push(words, e, item(i)), Ok(()), "{}", i);
     }
 }
 
 // They come first from an edge, in this order.
-fn drain(rt: &impl Abort, edges: &mut Edges, words: &mut [u32], e: usize, from: u32, to: u32) {
-    for i in from..to {
+fn drain(rt: &impl Abort, edges: &mut Edges, words: &mut [u32], e: usize, numbers: Range<u32>) {
+    for i in numbers {
         assert_eq!(rt; edges.peek(words, e), Ok(item(i)), "{}", i);
         assert_eq!(rt; edges.pop(words, e), Ok(item(i)), "{}", i);
     }
@@ -76,7 +77,7 @@ fn short_memory(rt: HostRuntime) -> Result<(), Fail> {
     let mut words = vec![in rt.alloc(); 0u32; 4128]?;
     assert!(rt; words.len() == 4128);
     let mut edges = empty(2)?;
-    fill(&rt, &mut edges, &mut words, 0, 0, 2);
+    fill(&rt, &mut edges, &mut words, 0, 0..2);
     let short = &mut words[0..4127];
     assert_eq!(rt; edges.peek(short, 0), Err(SHORT));
     assert_eq!(rt; edges.push(short, 0, item(2)), Err(SHORT));
@@ -85,7 +86,7 @@ fn short_memory(rt: HostRuntime) -> Result<(), Fail> {
     assert_eq!(rt; edges.take_up(short, 0, 1), Err(SHORT));
     assert_eq!(rt; edges.pop(short, 2), Err(SHORT), "an edge that isn't there");
     assert_eq!(rt; edges.len(0), Ok(2));
-    drain(&rt, &mut edges, &mut words, 0, 0, 2);
+    drain(&rt, &mut edges, &mut words, 0, 0..2);
     Ok(())
 }
 
@@ -95,11 +96,11 @@ fn empty_and_full(rt: HostRuntime) -> Result<(), Fail> {
     let mut edges = empty(1)?;
     assert_eq!(rt; edges.peek(&words, 0), Err(NOTHING));
     assert_eq!(rt; edges.pop(&mut words, 0), Err(NOTHING));
-    fill(&rt, &mut edges, &mut words, 0, 0, 256);
+    fill(&rt, &mut edges, &mut words, 0, 0..256);
     assert_eq!(rt; edges.len(0), Ok(256));
     assert_eq!(rt; edges.push(&mut words, 0, item(256)), Err(NO_ROOM));
     assert_eq!(rt; edges.len(0), Ok(256));
-    drain(&rt, &mut edges, &mut words, 0, 0, 256);
+    drain(&rt, &mut edges, &mut words, 0, 0..256);
     assert_eq!(rt; edges.pop(&mut words, 0), Err(NOTHING));
     Ok(())
 }
@@ -111,12 +112,12 @@ fn through(rt: &(impl Abort + AllocGlobal), waiting: u32) -> Result<(), Fail> {
     let mut edges = empty(1)?;
     for i in 0..1000 {
         if i >= waiting {
-            drain(rt, &mut edges, &mut words, 0, i - waiting, i - waiting + 1);
+            drain(rt, &mut edges, &mut words, 0, i - waiting..i - waiting + 1);
         }
-        fill(rt, &mut edges, &mut words, 0, i, i + 1);
+        fill(rt, &mut edges, &mut words, 0, i..i + 1);
     }
     assert_eq!(rt; edges.len(0), Ok(waiting as usize), "{}", waiting);
-    drain(rt, &mut edges, &mut words, 0, 1000 - waiting, 1000);
+    drain(rt, &mut edges, &mut words, 0, 1000 - waiting..1000);
     assert_eq!(rt; edges.len(0), Ok(0), "{}", waiting);
     Ok(())
 }
@@ -134,17 +135,17 @@ fn first_in_first_out(rt: HostRuntime) -> Result<(), Fail> {
 fn neighbours(rt: HostRuntime) -> Result<(), Fail> {
     let mut words = vec![in rt.alloc(); 0u32; 6192]?;
     let mut edges = empty(3)?;
-    fill(&rt, &mut edges, &mut words, 0, 0, 256);
-    fill(&rt, &mut edges, &mut words, 1, 1000, 1256);
-    drain(&rt, &mut edges, &mut words, 0, 0, 255);
-    fill(&rt, &mut edges, &mut words, 0, 256, 511);
+    fill(&rt, &mut edges, &mut words, 0, 0..256);
+    fill(&rt, &mut edges, &mut words, 1, 1000..1256);
+    drain(&rt, &mut edges, &mut words, 0, 0..255);
+    fill(&rt, &mut edges, &mut words, 0, 256..511);
     assert_eq!(rt; edges.len(0), Ok(256));
     assert_eq!(rt; edges.len(1), Ok(256));
     assert_eq!(rt; edges.len(2), Ok(0));
-    drain(&rt, &mut edges, &mut words, 1, 1000, 1256);
-    fill(&rt, &mut edges, &mut words, 1, 2000, 2256);
-    drain(&rt, &mut edges, &mut words, 0, 255, 511);
-    drain(&rt, &mut edges, &mut words, 1, 2000, 2256);
+    drain(&rt, &mut edges, &mut words, 1, 1000..1256);
+    fill(&rt, &mut edges, &mut words, 1, 2000..2256);
+    drain(&rt, &mut edges, &mut words, 0, 255..511);
+    drain(&rt, &mut edges, &mut words, 1, 2000..2256);
     Ok(())
 }
 
@@ -152,16 +153,16 @@ fn neighbours(rt: HostRuntime) -> Result<(), Fail> {
 fn cleared(rt: HostRuntime) -> Result<(), Fail> {
     let mut words = vec![in rt.alloc(); 0u32; 6192]?;
     let mut edges = empty(3)?;
-    fill(&rt, &mut edges, &mut words, 0, 0, 2);
-    fill(&rt, &mut edges, &mut words, 1, 10, 13);
-    fill(&rt, &mut edges, &mut words, 2, 20, 22);
+    fill(&rt, &mut edges, &mut words, 0, 0..2);
+    fill(&rt, &mut edges, &mut words, 1, 10..13);
+    fill(&rt, &mut edges, &mut words, 2, 20..22);
     assert_eq!(rt; edges.clear(1), Ok(()));
     assert_eq!(rt; edges.len(1), Ok(0));
     assert_eq!(rt; edges.pop(&mut words, 1), Err(NOTHING));
-    drain(&rt, &mut edges, &mut words, 0, 0, 2);
-    drain(&rt, &mut edges, &mut words, 2, 20, 22);
-    fill(&rt, &mut edges, &mut words, 1, 30, 32);
-    drain(&rt, &mut edges, &mut words, 1, 30, 32);
+    drain(&rt, &mut edges, &mut words, 0, 0..2);
+    drain(&rt, &mut edges, &mut words, 2, 20..22);
+    fill(&rt, &mut edges, &mut words, 1, 30..32);
+    drain(&rt, &mut edges, &mut words, 1, 30..32);
     Ok(())
 }
 
@@ -170,10 +171,10 @@ fn cleared(rt: HostRuntime) -> Result<(), Fail> {
 fn taken_up(rt: HostRuntime) -> Result<(), Fail> {
     let mut words = vec![in rt.alloc(); 0u32; 6192]?;
     let mut edges = empty(3)?;
-    fill(&rt, &mut edges, &mut words, 1, 0, 2);
-    let Ok(part) = edges.free(&words, 1) else {
-        return Err(Fail::new("no free part"));
-    };
+    fill(&rt, &mut edges, &mut words, 1, 0..2);
+    let part = edges
+        .free(&words, 1)
+        .map_err(|_| Fail::new("no free part"))?;
     assert_eq!(rt; part, 2072..3088);
     let free = &mut words[part];
     assert!(rt; free.len() == 1016);
@@ -185,8 +186,8 @@ fn taken_up(rt: HostRuntime) -> Result<(), Fail> {
     assert_eq!(rt; edges.take_up(&words, 1, 3), Ok(()));
     assert_eq!(rt; edges.len(1), Ok(5));
     assert_eq!(rt; edges.free(&words, 1), Ok(2084..3088));
-    fill(&rt, &mut edges, &mut words, 1, 5, 6);
-    drain(&rt, &mut edges, &mut words, 1, 0, 6);
+    fill(&rt, &mut edges, &mut words, 1, 5..6);
+    drain(&rt, &mut edges, &mut words, 1, 0..6);
     assert_eq!(rt; edges.len(1), Ok(0));
     Ok(())
 }
