@@ -14,7 +14,7 @@ pub struct Head {
     ghost fits: { (start < 256) × (len ≤ 256) },
 }
 
-// The head of an edge without items.
+// The head of an edge without items; by hand, for no default is derived over a ghost field.
 impl Default for Head {
     ghost is_default = { λ h. (h.start ≡ 0) × (h.len ≡ 0) };
 

@@ -6,7 +6,7 @@ ghost use Rattle.graph.specs.Line.{kind_named, journal_of, kind_of, worker_of, e
 use model::{Edge, Kind};
 use text::{Words, is_name, same};
 
-// The kinds of workers by name.
+// The kinds of workers by name, as the table of the definitions has them: what follows a name comes later.
 #[derive(Clone, Copy)]
 pub enum Name {
     Source,

@@ -33,7 +33,7 @@ impl From<AllocError> for Failure<'_> {
     }
 }
 
-// A graph is refused by these two alone.
+// A graph is refused by these two alone. The sentences are of this program, and so no `Display` of a refusal.
 fn reason(refusal: Refusal) -> &'static str {
     match refusal {
         Refusal::BadLine => "no line of a graph, a 33rd worker, a 65th edge, or no worker at all",

@@ -6,7 +6,7 @@ ghost use Rattle.scripts.specs.Command.{word_named, command_with, command_of};
 use model::Call;
 use text::Words;
 
-// The first word of a line.
+// The first word of a line, as the table of the definitions has it.
 #[derive(Clone, Copy)]
 pub enum Word {
     Step,
