@@ -223,8 +223,7 @@ fn counted(bytes: &[u8]) -> Option<(u64, Stop)> {
     for n in 0..100 {
         match read_item(rest) {
             Ok((_, taken)) => rest = rest.get(taken..rest.len())?,
-            Err(NoItem::NotYet) => return Some((n, Stop::NotYet)),
-            Err(NoItem::Unknown) => return Some((n, Stop::Unknown)),
+            Err(none) => return Some((n, none.into())),
         }
     }
     None
@@ -274,7 +273,7 @@ fn refused(rt: HostRuntime) {
     assert_eq!(rt; Stop::NotYet.refusal(), Some(Refusal::NothingToTake));
     assert_eq!(rt; Stop::Unknown.refusal(), Some(Refusal::UnknownItem));
     assert_eq!(rt; Stop::TooMany.refusal(), Some(Refusal::CounterFull));
-    assert_eq!(rt; Stop::Failed(5).refusal(), None);
+    assert_eq!(rt; Stop::Failed(Some(5)).refusal(), None);
 }
 
 // A file that is written on while it is read.

@@ -19,8 +19,8 @@ fn word(bytes: &[u8]) -> Option<(u32, &[u8])>
     Some((u32::from_be_bytes(*first), rest))
 }
 
-// The item that comes first in the bytes of a journal, and how many bytes it took. By `let .. else` and not by `?`: each
-// line says what is not there yet.
+// The item that comes first in the bytes of a journal, and how many bytes it took. Taken apart by `let .. else`, a rule
+// of this project (D77): each place says that an item may be cut short there.
 pub fn read_item(bytes: &[u8]) -> Result<(Item, usize), NoItem>
     ensures { result ≡ first_of bytes.now }
 {

@@ -8,9 +8,9 @@ use Rattle.journals.specs.declared.stop.Stop.{Stop}
 use Rattle.journals.specs.declared.stop.Stop.TheVariants.{NotYet as StopNotYet, Unknown as StopUnknown, TooMany, Failed}
 
 -- bytes came from a source, behind those that were held
-abbrev pub Came : {E : Type 0} → Result ℕ E → (held held' given given' : List ℕ) → Type 0
-Came (Ok n) held held' given given' = (more : List ℕ) × (length more ≡ n) × (held' ≡ held ++ more) × (given' ≡ given ++ more)
-Came (Err e) held held' given given' = (held' ≡ held) × (given' ≡ given)
+abbrev pub Filled : {E : Type 0} → Result ℕ E → (held held' given given' : List ℕ) → Type 0
+Filled (Ok n) held held' given given' = (more : List ℕ) × (length more ≡ n) × (held' ≡ held ++ more) × (given' ≡ given ++ more)
+Filled (Err e) held held' given given' = (held' ≡ held) × (given' ≡ given)
 
 -- n items of a journal are there
 abbrev pub has : ℕ → List ℕ → Bool
@@ -28,11 +28,12 @@ Found (Err StopUnknown) first = first ≡ Err Unknown
 Found (Err TooMany) first = ⊥
 Found (Err (Failed code)) first = Unit {0}
 
--- what stands in a journal under number n: an item, or why there is none
+-- why a reader stops where no item comes
 abbrev pub stop_of : NoItem → Stop
 stop_of NotYet = StopNotYet
 stop_of Unknown = StopUnknown
 
+-- what stands in a journal under number n: an item, or why there is none
 abbrev pub told : Reading → Result Item Stop
 told (Ok p) = Ok p.0
 told (Err none) = Err (stop_of none)

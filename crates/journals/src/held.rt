@@ -1,6 +1,6 @@
 // The bytes of a journal that were given and not yet taken.
 ghost use Rattle.std.specs.Prelude.{◌≡◌, ◌<◌, ◌≤◌, true, [], length, drop, IfOk, OnErr};
-ghost use Rattle.journals.specs.Handing.{Came};
+ghost use Rattle.journals.specs.Handing.{Filled};
 
 use sources::Source;
 use std::alloc::{AllocError, Global};
@@ -69,7 +69,7 @@ impl Held {
         requires { length self.old < 13 }
         ensures failed { OnErr result (S.Source.failed source.new ≡ true) }
         ensures ended { IfOk result (λ n. (n ≡ 0 → S.Source.ended source.new ≡ true)) }
-        ensures came { Came result self.old self.new
+        ensures came { Filled result self.old self.new
             (S.Source.given source.old) (S.Source.given source.new) }
     {
         self.buffer.copy_within(self.start..self.end, 0);

@@ -4,7 +4,8 @@ ghost use Rattle.items.specs.Journal.{rest_at};
 use crate::held::Held;
 use ledger::Ledger;
 
-// Reads a journal from a source through one buffer, whose size doesn't change.
+// Reads a journal from a source through one buffer, whose size doesn't change. That `journal` is what the source gave
+// stands in clauses: a struct that owns memory may have no ghost field that cites a member of a bound, `S.Source.given`.
 #[derive(Drop)]
 pub struct Reader<S> {
     pub(crate) source: S,

@@ -54,14 +54,9 @@ impl<S: Source> Reader<S> {
             self.new.journal.bytes (S.Source.given self.new.source) }
     {
         loop {
-            match read_item(self.held.bytes()) {
-                Ok(found) => return Ok(found),
-                Err(NoItem::Unknown) => return Err(Stop::Unknown),
-                Err(NoItem::NotYet) => {
-                    if self.fill()? == 0 {
-                        return Err(Stop::NotYet);
-                    }
-                }
+            let found = read_item(self.held.bytes());
+            if found != Err(NoItem::NotYet) || self.fill()? == 0 {
+                return Ok(found?);
             }
         }
     }

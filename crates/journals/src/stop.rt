@@ -1,20 +1,22 @@
-ghost use Rattle.std.specs.Prelude.{◌≡◌, pos, unwrap_or};
+ghost use Rattle.std.specs.Prelude.{◌≡◌};
 ghost use Rattle.std.specs.IoError.{raw_os_error};
 ghost use Rattle.journals.specs.declared.stop.Stop.TheVariants.{Failed};
+ghost use Rattle.journals.specs.Handing.{stop_of};
 ghost use Rattle.journals.specs.Stops.{refusal_of};
 
-use items::Refusal;
+use items::{NoItem, Refusal};
 use std::io;
 
 // Why no item comes: it isn't there yet, it is of an unknown kind, the items would be too many to be numbered, or the
-// source failed, with the system's number of the failure, 0 where it has none.
+// source failed, with the system's number of the failure, where it has one.
 #[derive(Clone, Copy, PartialEq, Eq, Debug, Drop)]
 pub enum Stop {
     NotYet,
     Unknown,
     TooMany,
-    // an `io::Error` is some 100 bytes long, and so would be every answer
-    Failed(i32),
+    // and no `io::Error`: it is some 100 bytes long, so would be every answer, and a journal took four times as long to
+    // read
+    Failed(Option<i32>),
 }
 
 impl Stop {
@@ -31,10 +33,21 @@ impl Stop {
     }
 }
 
+impl From<NoItem> for Stop {
+    ghost from_gives = { λ none stop. stop ≡ stop_of none };
+
+    fn from(none: NoItem) -> Stop {
+        match none {
+            NoItem::NotYet => Stop::NotYet,
+            NoItem::Unknown => Stop::Unknown,
+        }
+    }
+}
+
 impl From<io::Error> for Stop {
-    ghost from_gives = { λ error stop. stop ≡ Failed (unwrap_or (raw_os_error error) (pos 0)) };
+    ghost from_gives = { λ error stop. stop ≡ Failed (raw_os_error error) };
 
     fn from(error: io::Error) -> Stop {
-        Stop::Failed(error.raw_os_error().unwrap_or(0))
+        Stop::Failed(error.raw_os_error())
     }
 }

@@ -1,6 +1,5 @@
 // The sources of a journal's bytes: memory, and files.
 ghost use Rattle.std.specs.Prelude.{◌≡◌, false, [], ◌++◌, length, take, MatchResult, ◌==◌};
-ghost use Rattle.sources.specs.declared.ends.Last.TheVariants.{Gave};
 ghost use Rattle.sources.specs.Files.{has_ended, has_failed};
 
 use crate::{Memory, Source};
@@ -47,7 +46,8 @@ impl Source for Memory {
     }
 }
 
-// What came of the last question to a file: it gave bytes or was not asked yet, it had no more, or it failed.
+// What came of the last question to a file: it gave bytes, or was not asked since its beginning; it had no more; or it
+// failed.
 #[derive(Drop)]
 enum Last {
     Gave,
@@ -66,7 +66,8 @@ pub struct JournalFile {
 impl JournalFile {
     // The file is to stand at its beginning.
     pub fn new(file: File) -> JournalFile
-        ensures { (result.given.bytes ≡ []) × (result.last ≡ Gave) }
+        ensures { (result.given.bytes ≡ [])
+            × (has_ended result.last ≡ false) × (has_failed result.last ≡ false) }
     {
         JournalFile {
             file,
@@ -84,7 +85,7 @@ impl Source for JournalFile {
     ghost failed = { λ f. has_failed f.last };
 
     fn read(&mut self, into: &mut [u8]) -> io::Result<usize> {
-        // until it has answered
+        // this stands where the call below fails
         self.last = Last::Failed;
         let n = self.file.read(into)?;
         self.given.note(&into[0..n]);
@@ -93,6 +94,7 @@ impl Source for JournalFile {
     }
 
     fn rewind(&mut self) -> io::Result<()> {
+        // this stands where the call below fails
         self.last = Last::Failed;
         self.file.seek(SeekFrom::Start(0))?;
         self.given = Ledger::new();
