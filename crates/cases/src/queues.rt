@@ -172,9 +172,10 @@ fn taken_up(rt: HostRuntime) -> Result<(), Fail> {
     let mut words = vec![in rt.alloc(); 0u32; 6192]?;
     let mut edges = empty(3)?;
     fill(&rt, &mut edges, &mut words, 1, 0..2);
-    let part = edges
-        .free(&words, 1)
-        .map_err(|_| Fail::new("no free part"))?;
+    // not `map_err`, behind which the check doesn't know that the part is within the words
+    let Ok(part) = edges.free(&words, 1) else {
+        return Err(Fail::new("no free part"));
+    };
     assert_eq!(rt; part, 2072..3088);
     let free = &mut words[part];
     assert!(rt; free.len() == 1016);
