@@ -14,7 +14,7 @@ pub enum Stop {
     NotYet,
     Unknown,
     TooMany,
-    // and no `io::Error`: it is some 100 bytes long, so would be every answer, and a journal took four times as long to
+    // not an `io::Error`: it is some 100 bytes long, so would be every answer, and a journal took four times as long to
     // read
     Failed(Option<i32>),
 }
