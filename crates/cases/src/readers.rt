@@ -273,7 +273,7 @@ fn refused(rt: HostRuntime) {
     assert_eq!(rt; Stop::NotYet.refusal(), Some(Refusal::NothingToTake));
     assert_eq!(rt; Stop::Unknown.refusal(), Some(Refusal::UnknownItem));
     assert_eq!(rt; Stop::TooMany.refusal(), Some(Refusal::CounterFull));
-    assert_eq!(rt; Stop::Failed(Some(5)).refusal(), None);
+    assert_eq!(rt; Stop::Failed(5).refusal(), None);
 }
 
 // A file that is written on while it is read.

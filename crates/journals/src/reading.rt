@@ -54,9 +54,10 @@ impl<S: Source> Reader<S> {
             self.new.journal.bytes (S.Source.given self.new.source) }
     {
         loop {
-            let found = read_item(self.held.bytes());
-            if found != Err(NoItem::NotYet) || self.fill()? == 0 {
-                return Ok(found?);
+            match read_item(self.held.bytes()) {
+                Ok(found) => return Ok(found),
+                Err(NoItem::NotYet) if self.fill()? > 0 => {}
+                Err(none) => return Err(none.into()),
             }
         }
     }

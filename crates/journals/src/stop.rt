@@ -1,4 +1,4 @@
-ghost use Rattle.std.specs.Prelude.{◌≡◌};
+ghost use Rattle.std.specs.Prelude.{◌≡◌, pos, unwrap_or};
 ghost use Rattle.std.specs.IoError.{raw_os_error};
 ghost use Rattle.journals.specs.declared.stop.Stop.TheVariants.{Failed};
 ghost use Rattle.journals.specs.Handing.{stop_of};
@@ -8,15 +8,15 @@ use items::{NoItem, Refusal};
 use std::io;
 
 // Why no item comes: it isn't there yet, it is of an unknown kind, the items would be too many to be numbered, or the
-// source failed, with the system's number of the failure, where it has one.
+// source failed, with the system's number of the failure, 0 where it has none.
 #[derive(Clone, Copy, PartialEq, Eq, Debug, Drop)]
 pub enum Stop {
     NotYet,
     Unknown,
     TooMany,
-    // not an `io::Error`: it is some 100 bytes long, so would be every answer, and a journal took four times as long to
-    // read
-    Failed(Option<i32>),
+    // With an `io::Error`, which is some 100 bytes long, each answer would be as long, and a journal take four times as
+    // long to read; with an `Option`, a tenth longer.
+    Failed(i32),
 }
 
 impl Stop {
@@ -45,9 +45,9 @@ impl From<NoItem> for Stop {
 }
 
 impl From<io::Error> for Stop {
-    ghost from_gives = { λ error stop. stop ≡ Failed (raw_os_error error) };
+    ghost from_gives = { λ error stop. stop ≡ Failed (unwrap_or (raw_os_error error) (pos 0)) };
 
     fn from(error: io::Error) -> Stop {
-        Stop::Failed(error.raw_os_error())
+        Stop::Failed(error.raw_os_error().unwrap_or(0))
     }
 }

@@ -49,8 +49,7 @@ fn end_of(stop: Stop) -> io::Result<&'static str> {
         Stop::NotYet => Ok("the end"),
         Stop::Unknown => Ok("an unknown kind"),
         Stop::TooMany => Ok("too many items"),
-        Stop::Failed(Some(code)) => Err(io::Error::from_raw_os_error(code)),
-        Stop::Failed(None) => Err(io::ErrorKind::Other.into()),
+        Stop::Failed(code) => Err(io::Error::from_raw_os_error(code)),
     }
 }
 
