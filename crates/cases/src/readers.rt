@@ -252,9 +252,7 @@ fn any_bytes(rt: HostRuntime) -> Result<(), Fail> {
             state = state.wrapping_mul(1664525).wrapping_add(1013904223);
             *byte = (state >> 24) as u8 % 3;
         }
-        let Some((count, stop)) = counted(&bytes) else {
-            return Err(Fail::new("too many items"));
-        };
+        let (count, stop) = counted(&bytes).ok_or_else(|| Fail::new("too many items"))?;
         let mut reader = Reader::new(rt.alloc(), Memory::new(bytes))?;
         assert_eq!(rt; streamed(&mut reader), Some((count, stop)), "{}", round);
         assert_eq!(rt; reader.number(), count, "{}", round);

@@ -5,10 +5,7 @@ use Rattle.std.proofs.lemmas.Bool.{and_from}
 use Rattle.text.specs.Words.{words_of, lines_of}
 use Rattle.model.specs.Graph.{Topology, most_workers, most_edges, worker_proper, edge_proper, workers_proper, edges_proper, sized, proper, Proper}
 use Rattle.model.proofs.Proper.{proper_is_lem}
-use Rattle.model.specs.declared.Kind.{Kind}
-use Rattle.model.specs.declared.Edge.{Edge}
-use Rattle.graph.specs.declared.rows.Rows.{Rows}
-use Rattle.graph.specs.Rows.{items_of}
+use Rattle.graph.specs.declared.draft.Draft.{Draft}
 use Rattle.graph.specs.Draft.{shape_of}
 use Rattle.graph.specs.declared.line.Line.{Line}
 use Rattle.graph.specs.declared.line.Line.TheVariants as line
@@ -62,10 +59,9 @@ read_proper text s is none =
     and_from (sized (topology s)) (workers_proper s.edges 0 s.kinds && edges_proper s.kinds s.edges) z
     (and_from (workers_proper s.edges 0 s.kinds) (edges_proper s.kinds s.edges) ws.1 es.1)
 
--- the same of a draft's rows
-pub sound : (text : List ℕ) (ks : Rows Kind 32) (es : Rows Edge 64) → drafted text ≡ complete (shape_of (record { workers = ks; edges = es })) → fault_of (shape_of (record { workers = ks; edges = es })) ≡ None →
-    proper (record { kinds = items_of ks; edges = items_of es }) ≡ true
-sound text ks es is none = read_proper text (shape_of (record { workers = ks; edges = es })) (sym is) (sym none)
+-- the same of what was read
+pub sound : (text : List ℕ) (d : Draft) → drafted text ≡ complete (shape_of d) → fault_of (shape_of d) ≡ None → proper (topology (shape_of d)) ≡ true
+sound text d is none = read_proper text (shape_of d) (sym is) (sym none)
 
 refused_graph : (n l : ℕ) (g : Topology) (ls : List ℕ) → refused n l ≡ graph g ls → ⊥
 refused_graph n l g ls h = let z : ◌≡◌ {A = ℕ} 0 1 = cc in omega arith

@@ -5,12 +5,14 @@ use Rattle.text.specs.Words.{words_of, lines_of}
 use Rattle.model.specs.Graph.{Topology, Proper}
 use Rattle.graph.specs.declared.checked.Graph.{Graph}
 use Rattle.graph.specs.declared.refused.Refused.{Refused}
-use Rattle.graph.specs.Rows.{items_of, line_numbers}
-use Rattle.graph.specs.Draft.{Shape, Drafted, complete, bad_line, topology, drafted}
+use Rattle.graph.specs.Draft.{Shape, Drafted, complete, bad_line, topology, shape_of, drafted}
 use Rattle.graph.specs.Faults.{fault_of}
 
 abbrev pub topology_of : Graph → Topology
-topology_of g = record { kinds = items_of g.workers; edges = items_of g.edges }
+topology_of g = topology (shape_of g.draft)
+
+abbrev pub worker_lines : Graph → List ℕ
+worker_lines g = (shape_of g.draft).worker_lines
 
 -- a graph with the lines of its workers, or a number and a line
 pub data Verdict : Type 0 where
@@ -18,7 +20,7 @@ pub data Verdict : Type 0 where
   refused : (number line : ℕ) → Verdict
 
 abbrev pub verdict_of : Result Graph Refused → Verdict
-verdict_of (Ok g) = graph (topology_of g) (line_numbers g.workers)
+verdict_of (Ok g) = graph (topology_of g) (worker_lines g)
 verdict_of (Err e) = refused (number_of e.refusal) e.line
 
 abbrev pub judged : Shape → Option ℕ → Verdict

@@ -1,7 +1,7 @@
 // What a graph has, and which calls name something that is there.
 ghost use Rattle.std.specs.Prelude.{◌≡◌};
 ghost use Rattle.model.specs.Address.{addressed};
-ghost use Rattle.graph.specs.Verdict.{topology_of};
+ghost use Rattle.graph.specs.Verdict.{topology_of, worker_lines};
 
 use crate::checked::Graph;
 use model::{Call, Edge, Kind};
@@ -11,14 +11,21 @@ impl Graph {
     pub fn kinds(&self) -> &[Kind]
         ensures { result.now ≡ (topology_of self.now).kinds }
     {
-        self.workers.items()
+        self.draft.workers.items()
     }
 
     // The ends of the edges, by number.
     pub fn ends(&self) -> &[Edge]
         ensures { result.now ≡ (topology_of self.now).edges }
     {
-        self.edges.items()
+        self.draft.edges.items()
+    }
+
+    // The numbers of the workers' lines, by worker.
+    pub fn lines(&self) -> &[usize]
+        ensures { result.now ≡ worker_lines self.now }
+    {
+        self.draft.workers.lines()
     }
 
     fn has_worker(&self, worker: u32) -> bool

@@ -20,8 +20,5 @@ pub fn read(text: &[u8]) -> Result<Graph, Refused>
             line,
         });
     }
-    Ok(Graph {
-        workers: draft.workers,
-        edges: draft.edges,
-    })
+    Ok(Graph { draft })
 }
