@@ -139,6 +139,7 @@ fn grown(rt: HostRuntime) -> Result<(), Fail> {
 
 // The journal with a byte put in at a place.
 fn broken(rt: &HostRuntime, at: usize, kind: u8) -> Result<Reader<Memory>, Fail> {
+    // `let .. else`: two are wanted at once
     let (Some(before), Some(behind)) = (JOURNAL.get(0..at), JOURNAL.get(at..62)) else {
         return Err(Fail::new("no such place"));
     };

@@ -108,6 +108,7 @@ fn run(rt: &HostRuntime) -> anyhow::Result<()> {
     let mut args = env::args(rt)?;
     let _name = args.next();
     let usage = "usage: pace stream JOURNAL | pace skip JOURNAL NUMBER | pace queue NUMBER";
+    // `let .. else`: two are wanted at once
     let (Some(what), Some(first)) = (args.next(), args.next()) else {
         return Err(anyhow!("{usage}"));
     };

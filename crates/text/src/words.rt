@@ -19,7 +19,7 @@ fn cut(bytes: &[u8], end: u8) -> (&[u8], Option<&[u8]>)
     }
 }
 
-// Whether a word is a given one.
+// Whether a word is a given one; for two words that are told apart by `if`. For more a `match` is plainer.
 pub fn same(word: &[u8], name: &[u8]) -> bool
     ensures { result ≡ bytes_eq word.now name.now }
 {
