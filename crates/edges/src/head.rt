@@ -6,7 +6,7 @@ use crate::Fault;
 use crate::layout::CAPACITY;
 use items::Refusal;
 
-// Where the items of an edge stand among its 516 slots: from slot `start` on, `len` of them.
+// Where the items of an edge stand among its 516 slots, which are lent: from slot `start` on, `len` of them.
 #[derive(Clone, Copy)]
 pub struct Head {
     pub start: usize,

@@ -100,6 +100,7 @@ pub fn read_line(bytes: &[u8]) -> Option<Line>
 {
     let mut words = Words::new(bytes);
     let word = words.next()?;
+    // by `if`: as a `match`, its last arm has goals that only the checker names
     if same(word, b"worker") {
         read_worker(words)
     } else if same(word, b"edge") {
