@@ -60,6 +60,7 @@ fn advance(words: &mut [u32], e: usize, head: Head) -> Head
     Head { start: 0, len }
 }
 
+// `words` and `e` come with each call, for the words are lent anew each time (D42).
 #[tactic(auto, using(crate::proofs::Added::come_to))]
 impl Edges {
     // So many empty edges, if they are at most 64.

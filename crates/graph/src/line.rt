@@ -25,6 +25,7 @@ pub enum Line {
     Edge(Edge),
 }
 
+// A `match`, and no `TryFrom`: the contract is the table.
 fn kind_named(word: &[u8]) -> Option<Name>
     ensures { result ≡ kind_named word.now }
 {

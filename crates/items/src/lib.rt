@@ -47,6 +47,7 @@ pub enum Refusal {
 }
 
 impl Refusal {
+    // A method, for `u8::from` would not say what the number is.
     pub fn number(self) -> u8
         ensures { result ≡ number_of self }
     {

@@ -55,9 +55,8 @@ impl<S: Source> Reader<S> {
     {
         loop {
             match read_item(self.held.bytes()) {
-                Ok(found) => return Ok(found),
                 Err(NoItem::NotYet) if self.fill()? > 0 => {}
-                Err(none) => return Err(none.into()),
+                found => return Ok(found?),
             }
         }
     }

@@ -43,7 +43,7 @@ fn open(rt: &HostRuntime, path: &str) -> io::Result<Reader<JournalFile>> {
     Ok(Reader::new(rt.alloc(), JournalFile::new(file))?)
 }
 
-// What stopped a reader, in words of this program.
+// What stopped a reader, in words of this program, and so no `Display` of a stop.
 fn end_of(stop: Stop) -> io::Result<&'static str> {
     match stop {
         Stop::NotYet => Ok("the end"),

@@ -130,6 +130,7 @@ fn run(rt: &HostRuntime) -> io::Result<ExitCode> {
         Err(error) => return fail(rt, Failure::Arguments(error)),
     };
     let _program = args.next();
+    // `let .. else`: three are looked at at once
     let (Some(graph), Some(script), None) = (args.next(), args.next(), args.next()) else {
         return fail(rt, Failure::Usage);
     };

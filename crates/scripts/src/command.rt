@@ -24,6 +24,7 @@ pub enum Command {
     Show,
 }
 
+// A `match`, and no `TryFrom`: the contract is the table.
 fn word_named(word: &[u8]) -> Option<Word>
     ensures { result ≡ word_named word.now }
 {

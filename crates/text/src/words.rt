@@ -19,7 +19,7 @@ fn cut(bytes: &[u8], end: u8) -> (&[u8], Option<&[u8]>)
     }
 }
 
-// Whether a word is a given one; for two words that are told apart by `if`. For more a `match` is plainer.
+// Whether a word is a given one: `==` by a name, under a contract and an edit of its own.
 pub fn same(word: &[u8], name: &[u8]) -> bool
     ensures { result ≡ bytes_eq word.now name.now }
 {
@@ -128,7 +128,8 @@ impl<'a> Iterator for Lines<'a> {
     }
 }
 
-// The first line of a text, and what is left after its line feed; nothing where no line is left.
+// The first line of a text, and what is left after its line feed; nothing where no line is left. One step of `Lines`,
+// for those who want the rest as bytes.
 pub fn next_line(text: &[u8]) -> Option<(&[u8], &[u8])>
     ensures is { MatchOption result (lines_of text.now ≡ []) (λ p. lines_of text.now ≡ p.0.now ∷ lines_of p.1.now) }
     ensures shorter { MatchOption result (length text.now ≡ 0) (λ p. length p.1.now < length text.now) }
