@@ -1,6 +1,7 @@
 // One text for each reason of a refusal, and a graph of every kind.
-use graph::{Refused, read};
+use graph::{Draft, Graph, Refused, Rows, read};
 use items::Refusal;
+use model::{Call, Edge, Kind};
 
 // Whether a text is a graph.
 fn verdict(text: &[u8]) -> Result<(), Refused> {
@@ -114,4 +115,31 @@ fn the_lowest_number_first(rt: HostRuntime) {
         verdict(b"worker sink\nworker sink\nworker sin\nworker si\n"),
         refused(Refusal::BadLine, 3)
     );
+}
+
+// Whoever proves that a draft keeps all rules, as the check does here, can make a graph of it.
+#[test]
+fn made_without_a_text(rt: HostRuntime) {
+    let mut kinds = [Kind::Source; 32];
+    kinds[1] = Kind::Sink;
+    let graph = Graph {
+        draft: Draft {
+            workers: Rows {
+                items: kinds,
+                lines: [1; 32],
+                len: 2,
+            },
+            edges: Rows {
+                items: [Edge { from: 0, to: 1 }; 64],
+                lines: [3; 64],
+                len: 1,
+            },
+        },
+    };
+    assert_eq!(rt; graph.kinds().len(), 2);
+    assert_eq!(rt; graph.ends().len(), 1);
+    assert_eq!(rt; graph.addresses(Call::Feed { worker: 0 }), true);
+    assert_eq!(rt; graph.addresses(Call::Feed { worker: 1 }), false);
+    assert_eq!(rt; graph.addresses(Call::Step { worker: 1, edge: 0 }), true);
+    assert_eq!(rt; graph.addresses(Call::Step { worker: 1, edge: 1 }), false);
 }

@@ -12,6 +12,8 @@ mod readers;
 #[cfg(test)]
 mod refusals;
 #[cfg(test)]
+mod rests;
+#[cfg(test)]
 mod words;
 
 #[cfg(test)]

@@ -1,3 +1,5 @@
+ghost use Rattle.std.specs.Prelude.{◌≤◌, length};
+
 use crate::head::Head;
 use crate::layout::MOST;
 use arrayvec::ArrayVec;
@@ -7,4 +9,6 @@ use arrayvec::ArrayVec;
 #[derive(Drop)]
 pub struct Edges {
     pub(crate) heads: ArrayVec<Head, MOST>,
+    // for the proofs of callers: what the vector knows of its length is told to its own crate alone
+    ghost most: { length heads.items ≤ 64 },
 }

@@ -5,9 +5,9 @@ use std::alloc::AllocError;
 // Workers, or edges, in the order of their lines, each with its line's number. An array and its length, for graphs are
 // copied, which an `ArrayVec` is not, and never allocate; two arrays, for the items are lent as one slice.
 pub struct Rows<T, const N: usize> {
-    pub(crate) items: [T; N],
-    pub(crate) lines: [usize; N],
-    pub(crate) len: usize,
+    pub items: [T; N],
+    pub lines: [usize; N],
+    pub len: usize,
     ghost fits: { len ≤ N },
     ghost long: { (length items ≡ N) × (length lines ≡ N) },
 }

@@ -2,7 +2,7 @@
 ghost use Rattle.std.specs.Prelude.{◌≡◌, ◌<◌, ◌≤◌, true, [], ◌∷◌, ◌++◌, length, MatchOption, slice_index_or};
 ghost use Rattle.std.specs.Iterator.{YieldsFirstRef, item_count};
 ghost use Rattle.std.specs.Str.{bytes_eq};
-ghost use Rattle.text.specs.Words.{words_of, lines_of, none_of, one_of, two_of};
+ghost use Rattle.text.specs.Words.{words_of, lines_of, left_of, none_of, one_of, two_of};
 ghost use Rattle.text.specs.Laws.{lacks};
 
 use crate::digits::number;
@@ -83,10 +83,39 @@ impl<'a> Iterator for Words<'a> {
     ghost remaining = { item_count (λ words. words) };
 
     fn next(&mut self) -> Option<&'a [u8]> {
-        let (word, rest) = cut(self.rest?, b' ');
+        let (word, rest) = next_word(self.rest)?;
         self.rest = rest;
         Some(word)
     }
+}
+
+// The next word of a line, and what is left after the space that ends it; `None` for a rest says that no word is to come.
+// One step of `Words`, for those who want the rest as bytes, or look at it and go on.
+pub fn next_word(rest: Option<&[u8]>) -> Option<(&[u8], Option<&[u8]>)>
+    ensures { MatchOption result (left_of rest.entry ≡ []) (λ p. left_of rest.entry ≡ p.0.now ∷ left_of p.1) }
+{
+    Some(cut(rest?, b' '))
+}
+
+// Whether no word is left in a rest.
+pub fn no_word(rest: Option<&[u8]>) -> bool
+    ensures { result ≡ none_of (left_of rest.entry) }
+{
+    Words { rest }.no_word()
+}
+
+// One number in a rest and nothing after it.
+pub fn one_number(rest: Option<&[u8]>) -> Option<u32>
+    ensures { result ≡ one_of (left_of rest.entry) }
+{
+    Words { rest }.one_number()
+}
+
+// Two numbers in a rest and nothing after them.
+pub fn two_numbers(rest: Option<&[u8]>) -> Option<(u32, u32)>
+    ensures { result ≡ two_of (left_of rest.entry) }
+{
+    Words { rest }.two_numbers()
 }
 
 // The lines of a text that are left.
