@@ -189,7 +189,8 @@ impl Edges {
           | Err f ↦ (taken_up (length words.now) (edges_of words.now self.old) e (items_from (free_of words.now self.old e) 0 n) ≡ Err f) × (self.new ≡ self.old)
         ] }
     {
-        self.heads[e] = self.ask(words.len(), e)?.with_more(n)?;
+        let more = self.ask(words.len(), e)?.with_more(n)?;
+        self.heads[e] = more;
         Ok(())
     }
 }

@@ -9,6 +9,6 @@ use arrayvec::ArrayVec;
 #[derive(Drop)]
 pub struct Edges {
     pub(crate) heads: ArrayVec<Head, MOST>,
-    // for the proofs of callers: what the vector knows of its length is told to its own crate alone
+    // for the proofs of callers, who see nothing of what an `ArrayVec` holds of its length
     ghost most: { length heads.items ≤ 64 },
 }

@@ -13,10 +13,13 @@ fn cut(bytes: &[u8], end: u8) -> (&[u8], Option<&[u8]>)
     ensures lacks { lacks end result.0.now ≡ true }
     ensures joins { MatchOption result.1 (bytes.now ≡ result.0.now) (λ rest. bytes.now ≡ result.0.now ++ end ∷ rest.now) }
 {
-    match bytes.iter().position(|byte| *byte == end) {
-        Some(n) => (&bytes[..n], Some(&bytes[n + 1..])),
-        None => (bytes, None),
+    // A loop: by `position`, going over words by `next_word` would take one and a half times as long.
+    for (n, byte) in bytes.iter().enumerate() {
+        if *byte == end {
+            return (&bytes[..n], Some(&bytes[n + 1..]));
+        }
     }
+    (bytes, None)
 }
 
 // Whether a word is a given one: `==` by a name, under a contract and an edit of its own.
